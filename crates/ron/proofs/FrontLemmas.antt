@@ -1,5 +1,6 @@
 -- What reading a whole text answers, from what reading its value does.
-use Rattle.std.proofs.Common.{◌≡◌, ◌≢◌, ◌⊎◌, inl, inr, ℕ, ◌+◌, ◌==◌, Bool, true, false, [], ◌∷◌, length, ◌≤◌, Option, Some, None, arith, refl, sym, ap, subst, ◌∙◌}
+use Rattle.std.proofs.Common.{◌≡◌, ◌≢◌, ◌⊎◌, inl, inr, ℕ, ◌+◌, ◌==◌, Bool, true, false, [], ◌∷◌, length, ◌≤◌, Option, Some, None, arith, refl, sym, ap, subst}
+use Rattle.std.proofs.Common.{◌∙◌}
 use Rattle.ron_spec_words.specs.Characters.{Text, hash}
 use Rattle.ron_spec_words.specs.Runs.{is_at}
 use Rattle.ron_spec_words.specs.Gap.{skip}
@@ -52,7 +53,8 @@ module _ (x : Extensions) (limit : Option ℕ) (table : Table) (s : Text) where
 
   -- what is read where a value begins
   abbrev read_of : ℕ → Got (Extensions × Text) → Got plain.Data
-  read_of room o = and_directly o (λ (p : Extensions × Text) rest. read_at (length p.1 + length rest == length s) p.0 table.shapes room false table.root p.1 rest)
+  read_of room o =
+      and_directly o (λ (p : Extensions × Text) rest. read_at (length p.1 + length rest == length s) p.0 table.shapes room false table.root p.1 rest)
 
   -- where no value begins, nothing is read
   pub nowhere : value_start x s ≡ failed bad → (room : ℕ) → answer_document x table.shapes table.root room s ≡ err bad
@@ -78,10 +80,12 @@ module _ (x : Extensions) (limit : Option ℕ) (table : Table) (s : Text) where
     value_whole room = document_from x table.shapes table.root room s ∙ ap (λ o. whole (read_of room o)) h
 
     -- it begins nowhere else
-    pub same_front : (z : Extensions) (before at : Text) → value_start x s ≡ got (z, before) at → (room : ℕ) → read_at (length before + length at == length s) z table.shapes room false table.root before at ≡ front room
+    pub same_front : (z : Extensions) (before at : Text) → value_start x s ≡ got (z, before) at → (room : ℕ)
+        → read_at (length before + length at == length s) z table.shapes room false table.root before at ≡ front room
     same_front z before at k room = let e : got (z, before) at ≡ got (y, gap) body = sym k ∙ h in ap (read_of room) e
 
-    pub none_whole : ((room : ℕ) → IsRoomHere room → front room ≡ failed bad) → (room : ℕ) → IsRoomOf room → answer_document x table.shapes table.root room s ≡ err bad
+    pub none_whole : ((room : ℕ) → IsRoomHere room → front room ≡ failed bad) → (room : ℕ) → IsRoomOf room
+        → answer_document x table.shapes table.root room s ≡ err bad
     none_whole a room r = value_whole room ∙ ap whole (a room (here room r))
 
     module _ (e : Data) (a : (room : ℕ) → IsRoomHere room → front room ≡ got (data_view e) rest) where
@@ -92,7 +96,8 @@ module _ (x : Extensions) (limit : Option ℕ) (table : Table) (s : Text) where
       rest_whole more room r = value_whole room ∙ ap whole (a room (here room r)) ∙ more_at_end (data_view e) (skip rest) more
 
       -- what is behind a value is behind it in each room
-      pub same_rest : (z : Extensions) (before at : Text) (room : ℕ) (d : plain.Data) (next : Text) → value_start x s ≡ got (z, before) at → IsRoomOf room → read_at (length before + length at == length s) z table.shapes room false table.root before at ≡ got d next → rest ≡ next
+      pub same_rest : (z : Extensions) (before at : Text) (room : ℕ) (d : plain.Data) (next : Text) → value_start x s ≡ got (z, before) at → IsRoomOf room
+          → read_at (length before + length at == length s) z table.shapes room false table.root before at ≡ got d next → rest ≡ next
       same_rest z before at room d next k r g = let m = a room (here room r) in let f = same_front z before at k room in cc
 
     module _ (code : Error) (a : (room : ℕ) → IsRoomHere room → IsFaultOf (class_of code) (front room)) where
@@ -100,8 +105,10 @@ module _ (x : Extensions) (limit : Option ℕ) (table : Table) (s : Text) where
       refused_whole room r = rw (value_whole room) (fault_whole (class_of code) (front room) (a room (here room r)))
 
       -- a refused value where one can be read wants memory
-      pub refused_value : (z : Extensions) (before at : Text) (room : ℕ) (d : plain.Data) (next : Text) → value_start x s ≡ got (z, before) at → IsRoomOf room → read_at (length before + length at == length s) z table.shapes room false table.root before at ≡ got d next → code ≡ OutOfMemory
-      refused_value z before at room d next k r g = memory_is code (wants_memory (class_of code) d next (subst (IsFaultOf (class_of code)) (sym (same_front z before at k room) ∙ g) (a room (here room r))))
+      pub refused_value : (z : Extensions) (before at : Text) (room : ℕ) (d : plain.Data) (next : Text) → value_start x s ≡ got (z, before) at → IsRoomOf room
+          → read_at (length before + length at == length s) z table.shapes room false table.root before at ≡ got d next → code ≡ OutOfMemory
+      refused_value z before at room d next k r g = memory_is code
+          (wants_memory (class_of code) d next (subst (IsFaultOf (class_of code)) (sym (same_front z before at k room) ∙ g) (a room (here room r))))
 
 -- a refused start is the fault of the text
 pub start_fault : (k : ErrorClass) {P : Type 0} {g : Answer} → IsMemoryOrClass P k → (P → g ≡ err bad) → IsFaultOfText k g

@@ -17,5 +17,6 @@ weaker other f h = f h
 no_start : (x : Extensions) (text : Text) → value_start x text ≡ failed bad → (y : Extensions) (gap rest : Text) → StartsValue x text y gap rest → ⊥
 no_start x text e y gap rest z = let h = start_exact x text y gap rest z in cc
 
-pub begins_nowhere : (x : Extensions) (text : Text) (e : Error) → IsMemoryOr (value_start x text ≡ failed bad) e → IsMemoryOr ((y : Extensions) (gap rest : Text) → StartsValue x text y gap rest → ⊥) e
+pub begins_nowhere : (x : Extensions) (text : Text) (e : Error) → IsMemoryOr (value_start x text ≡ failed bad) e
+    → IsMemoryOr ((y : Extensions) (gap rest : Text) → StartsValue x text y gap rest → ⊥) e
 begins_nowhere x text e h = weaker (class_of e) (no_start x text) h

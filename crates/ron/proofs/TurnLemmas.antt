@@ -34,25 +34,32 @@ module _ (k m : ℕ) (few : m ≤ 4 * suc k) (old : ReaderState) (made : HasRead
   within : (t : ℕ) → t ≤ total_before paid_besides k m start → t ≤ turns_allowed old.text k
   within t h =
       let size : bytes_in start.gap + bytes_in start.rest ≤ bytes_in old.text = omega (arith, made.size, ap bytes_in here.rest, ap bytes_in here.gap) in
-      let begun : start.turns + bytes_in start.gap + 2 * bytes_in start.rest ≤ 16 * bytes_in old.text = omega (arith, made.expected, ap bytes_in here.rest, ap bytes_in here.gap, here.expected) in
+      let begun : start.turns + bytes_in start.gap + 2 * bytes_in start.rest ≤ 16 * bytes_in old.text =
+      omega (arith, made.expected, ap bytes_in here.rest, ap bytes_in here.gap, here.expected) in
       read_bound k m (bytes_in old.text) start t few size begun h
 
   -- a value that is read within its account keeps to the bound, and leaves room
-  pub kept : {A E : Type 0} (r : Result A E) (read there : Place) (new : ReaderState) → Spends paid_besides k m start r read → there.rest ≡ read.rest → there.turns ≤ read.turns → there.counted ≤ there.turns → IsPlaceOf new there → new.text ≡ old.text → KeepsWithin k r new
+  pub kept : {A E : Type 0} (r : Result A E) (read there : Place) (new : ReaderState) → Spends paid_besides k m start r read → there.rest ≡ read.rest
+      → there.turns ≤ read.turns → there.counted ≤ there.turns → IsPlaceOf new there → new.text ≡ old.text → KeepsWithin k r new
   unfolding total_behind
   kept (Ok a) read there new s same rests counted at text =
-      let bound : (t : ℕ) → t ≤ total_before paid_besides k m start → t ≤ turns_allowed new.text k = λ t h. subst (λ u. t ≤ turns_allowed u k) (sym text) (within t h) in
+      let bound : (t : ℕ) → t ≤ total_before paid_besides k m start
+      → t ≤ turns_allowed new.text k = λ t h. subst (λ u. t ≤ turns_allowed u k) (sym text) (within t h) in
       let here : settled paid_besides k new.rest ≡ settled paid_besides k read.rest = ap (settled paid_besides k) (at.rest ∙ same) in
       record {
         most = omega (arith, bound read.turns s.most, rests, counted, at.turns);
-        left = record { turns = omega (arith, counted, at.turns, at.expected); room = omega (arith, bound (total_behind paid_besides k read) s.left, rests, at.expected, here) };
+        left = record {
+          turns = omega (arith, counted, at.turns, at.expected);
+          room = omega (arith, bound (total_behind paid_besides k read) s.left, rests, at.expected, here);
+        };
       }
   kept (Err e) read there new s same rests counted at text =
       let bound : read.turns ≤ turns_allowed new.text k = subst (λ u. read.turns ≤ turns_allowed u k) (sym text) (within read.turns s.most) in
       record { most = omega (arith, bound, rests, counted, at.turns); left = tt }
 
 -- behind it a step that goes past a gap, or is refused
-pub end_within : {A E : Type 0} (k : ℕ) (old : ReaderState) (here : Place) (r : Result A E) (there : Place) → IsPlaceOf old here → Moves 1 here r there → there.counted ≤ there.turns → there.text ≡ old.text → LeavesRoom k old → there.counted ≤ turns_allowed there.text k
+pub end_within : {A E : Type 0} (k : ℕ) (old : ReaderState) (here : Place) (r : Result A E) (there : Place) → IsPlaceOf old here → Moves 1 here r there
+    → there.counted ≤ there.turns → there.text ≡ old.text → LeavesRoom k old → there.counted ≤ turns_allowed there.text k
 unfolding total_behind
 end_within k old here r there at moves counted text room =
     let scans : there.turns ≤ here.turns + settled paid_besides k here.rest = scans_behind paid_besides k 1 here there (omega arith) moves.most in

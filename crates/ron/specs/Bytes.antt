@@ -14,7 +14,8 @@ use Rattle.ron_base_device.specs.Utf8.{RefusesBytes, SpansValidFront, IsUtf8Erro
 use Rattle.ron_data.specs.declared.data.Data.{Data}
 use Rattle.ron_data.specs.Datum.{data_view}
 use Rattle.ron_data_schema.specs.Table.{Table}
-use Rattle.ron.specs.Whole.{DocumentWithin, IsOnlyData, RefusesDocument, RefusesDeepDocument, RefusesRest, AnswersAsReader, IsSlicedWhole, ReadsBack, TrailsAt, TellsErrors}
+use Rattle.ron.specs.Whole.{DocumentWithin, IsOnlyData, RefusesDocument, RefusesDeepDocument, RefusesRest, AnswersAsReader, IsSlicedWhole, ReadsBack, TrailsAt}
+use Rattle.ron.specs.Whole.{TellsErrors}
 use Rattle.ron.specs.Reading.{HasSpanIn, IsOfDocument}
 
 -- ---- bytes
@@ -51,7 +52,8 @@ pub record ReadsBytes (x : Extensions) (limit : Option ℕ) (table : Table) (byt
 
 -- ---- devices
 
--- The error is one of reading, a rest behind a value, or want of memory, the limit's only under a limit, and has a span in the text, that of a rest before its first character.
+-- The error is one of reading, a rest behind a value, or want of memory, the limit's only under a limit, and has a span in the text, that of a rest before its
+-- first character.
 pub record IsOwnedRefused (x : Extensions) (limit : Option ℕ) (table : Table) (text : Text) (refused : SpannedError) : Type 0 where
   pub fault : IsOfDocument refused.code
   pub only_limited : refused.code ≡ ExceededRecursionLimit → IsSome limit
@@ -83,11 +85,13 @@ pub record ReadsAll (x : Extensions) (limit : Option ℕ) (table : Table) (known
 
 -- All is read, so the source is at its end, and no pull failed; or one did, or no memory was found.
 abbrev pub ReadsSource : Bool → Bool → Extensions → Option ℕ → Table → Option (List ℕ) → Option (List ℕ) → Result Data SpannedError → Type 0
-ReadsSource was failed x limit table known left result = (ReadsAll x limit table known result × IsAtEnd left × (failed ≡ was)) ⊎ MatchResult result (λ _. ⊥) (λ refused. RefusesDevice failed refused.code)
+ReadsSource was failed x limit table known left result = (ReadsAll x limit table known result × IsAtEnd left × (failed ≡ was))
+    ⊎ MatchResult result (λ _. ⊥) (λ refused. RefusesDevice failed refused.code)
 
 -- All is read, so the reader is at its end; or it has failed, or no memory was found.
 abbrev pub ReadsReader : Extensions → Option ℕ → Table → Option (List ℕ) → Option (List ℕ) → Result Data SpannedError → Type 0
-ReadsReader x limit table known left result = (ReadsAll x limit table known result × IsAtEnd left) ⊎ MatchResult result (λ _. ⊥) (λ refused. IsIoOrMemory refused.code)
+ReadsReader x limit table known left result = (ReadsAll x limit table known result × IsAtEnd left)
+    ⊎ MatchResult result (λ _. ⊥) (λ refused. IsIoOrMemory refused.code)
 
 -- What is left is what stands behind a front of what was there.
 abbrev pub LeavesRest : Option (List ℕ) → Option (List ℕ) → Type 0
@@ -122,6 +126,8 @@ TellsReaderFault old new refused = IsIo refused.code → SpansGiven old new refu
 abbrev pub RefusesAnswer : (Data → Type 0) → (Data → Error → Type 0) → (Result Data SpannedError → Type 0) → Error → Type 0
 RefusesAnswer accepts refuses Answers e = ((d : Data) × Answers (Ok d) × refuses d e × (accepts d → e ≡ OutOfMemory)) ⊎ (e ≡ OutOfMemory)
 
--- The refusal is that of reading a reader as data, told where that tells it; or the type's of what was read, which stands at no place, and the span is from 1:1 to 1:1.
+-- The refusal is that of reading a reader as data, told where that tells it; or the type's of what was read, which stands at no place, and the span is from 1:1
+-- to 1:1.
 abbrev pub RefusesReader : (Data → Type 0) → (Data → Error → Type 0) → Extensions → Option ℕ → Table → Option (List ℕ) → Option (List ℕ) → SpannedError → Type 0
-RefusesReader accepts refuses x limit table old new refused = (ReadsReader x limit table old new (Err refused) × TellsReaderFault old new refused × IsInGiven old new refused) ⊎ (RefusesAnswer accepts refuses (ReadsReader x limit table old new) refused.code × SpansValidFront [] refused.span)
+RefusesReader accepts refuses x limit table old new refused = (ReadsReader x limit table old new (Err refused) × TellsReaderFault old new refused
+    × IsInGiven old new refused) ⊎ (RefusesAnswer accepts refuses (ReadsReader x limit table old new) refused.code × SpansValidFront [] refused.span)

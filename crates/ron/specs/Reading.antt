@@ -1,5 +1,6 @@
 -- Reading one value at a place of a text.
-use Rattle.std.specs.Prelude.{◌≡◌, ◌≢◌, ◌⊎◌, ◌+◌, ◌==◌, ◌||◌, ℕ, Bool, true, false, [], length, ◌++◌, Option, Some, None, IsSome, slice_get, Result, Err, MatchResult}
+use Rattle.std.specs.Prelude.{◌≡◌, ◌≢◌, ◌⊎◌, ◌+◌, ◌==◌, ◌||◌, ℕ, Bool, true, false, [], length, ◌++◌, Option, Some, None, IsSome, slice_get, Result, Err}
+use Rattle.std.specs.Prelude.{MatchResult}
 use Rattle.std.specs.Result.{is_err}
 use Rattle.ron_spec_words.specs.Characters.{Text, slash, hash}
 use Rattle.ron_spec_words.specs.Runs.{is_at}
@@ -30,7 +31,8 @@ use Rattle.ron_de_parts.specs.Bytes.{begins_bytes}
 use Rattle.ron_de_parts.specs.Errors.{IsOfReading, IsOfText, IsMemoryOr, HasLeafShape}
 use Rattle.ron_de_parts.specs.Slices.{IsSliced, StringsAreSliced}
 
--- what a `Deserializer` stands for: the text, what is left of it, what was left before the last word or the stretch at fault, the gap directly before the place, the extensions in force, the limit, whether it has refused, how many turns it has taken, and how many when the kinds in the text are known
+-- what a `Deserializer` stands for: the text, what is left of it, what was left before the last word or the stretch at fault, the gap directly before the
+-- place, the extensions in force, the limit, whether it has refused, how many turns it has taken, and how many when the kinds in the text are known
 pub record ReaderState : Type 0 where
   pub text : Text
   pub rest : Text
@@ -67,13 +69,16 @@ pub record IsStartRefused (text : Text) (refused : SpannedError) : Type 0 where
 abbrev pub is_first : ReaderState → Bool
 is_first state = length state.gap + length state.rest == length state.text
 
--- The reader is where the text's value begins: behind a head and a gap, before a rest that begins with no blank, `/` or `#`, under what is then in force by these default extensions. Or the text has no such place.
+-- The reader is where the text's value begins: behind a head and a gap, before a rest that begins with no blank, `/` or `#`, under what is then in force by
+-- these default extensions. Or the text has no such place.
 abbrev pub BeginsValue : Extensions → Text → Result ReaderState SpannedError → Type 0
-BeginsValue x text result = MatchResult result (λ d. StartsValue x text d.extensions d.gap d.rest) (λ e. IsMemoryOr ((y : Extensions) (gap rest : Text) → StartsValue x text y gap rest → ⊥) e.code)
+BeginsValue x text result = MatchResult result (λ d. StartsValue x text d.extensions d.gap d.rest)
+    (λ e. IsMemoryOr ((y : Extensions) (gap rest : Text) → StartsValue x text y gap rest → ⊥) e.code)
 
 -- likewise by the grammar's reader function
 abbrev pub BeginsAsReader : Extensions → Text → Result ReaderState SpannedError → Type 0
-BeginsAsReader x text result = MatchResult result (λ d. value_start x text ≡ got (d.extensions, d.gap) d.rest) (λ e. IsMemoryOr (value_start x text ≡ failed bad) e.code)
+BeginsAsReader x text result =
+    MatchResult result (λ d. value_start x text ≡ got (d.extensions, d.gap) d.rest) (λ e. IsMemoryOr (value_start x text ≡ failed bad) e.code)
 
 -- Behind the gap, at the start of the text or not, the stretch spells the data of the table's root within the limit, or at some depth where there is no limit.
 abbrev pub SpellsWithin : Bool → Extensions → Option ℕ → Table → Text → Text → Text → plain.Data → Type 0
@@ -97,15 +102,18 @@ IsDataOrMemory result rest d next = MatchResult result (λ e. (data_view e ≡ d
 abbrev pub IsLimitOrMemory : {A : Type 0} → Result A Error → Type 0
 IsLimitOrMemory result = MatchResult result (λ _. ⊥) (λ e. (e ≡ ExceededRecursionLimit) ⊎ (e ≡ OutOfMemory))
 
--- Wherever a front of what is left spells a data within the limit, and what follows it, after a gap, ends or goes on with `,`, `:` or a closing bracket, that data is answered.
+-- Wherever a front of what is left spells a data within the limit, and what follows it, after a gap, ends or goes on with `,`, `:` or a closing bracket, that
+-- data is answered.
 abbrev pub AnswersSpelled : ReaderState → Table → Result Data Error → Text → Type 0
 AnswersSpelled state table result rest =
-    (t next : Text) (d : plain.Data) → state.rest ≡ t ++ next → SpellsWithin (is_first state) state.extensions state.limit table state.gap t next d → FollowsValue next → IsDataOrMemory result rest d next
+    (t next : Text) (d : plain.Data) → state.rest ≡ t ++ next → SpellsWithin (is_first state) state.extensions state.limit table state.gap t next d
+    → FollowsValue next → IsDataOrMemory result rest d next
 
 -- What such a front spells at some depth, but not within the limit, is refused by the limit's error.
 abbrev pub RefusesDeep : ReaderState → Table → Result Data Error → Type 0
 RefusesDeep state table result =
-    (t next : Text) (d : plain.Data) (room : ℕ) → state.rest ≡ t ++ next → SpellsAt (is_first state) state.extensions table.shapes room false table.root state.gap t next d → FollowsValue next
+    (t next : Text) (d : plain.Data) (room : ℕ) → state.rest ≡ t ++ next
+    → SpellsAt (is_first state) state.extensions table.shapes room false table.root state.gap t next d → FollowsValue next
     → (SpellsWithin (is_first state) state.extensions state.limit table state.gap t next d → ⊥) → IsLimitOrMemory result
 
 -- The answer is that of the grammar's reader function, in each room that the limit leaves.
@@ -136,12 +144,14 @@ ReadsNone state table =
     (room : ℕ) → IsRoom state.limit (enough table.shapes false table.root (length state.rest)) room
     → read_at (is_first state) state.extensions table.shapes room false table.root state.gap state.rest ≡ failed bad
 
--- A string or byte string is a slice of the text unless it holds an escape or a continuation: the data itself at its own place, and each that it holds, however deep, at a place to which whole tokens lead from there.
+-- A string or byte string is a slice of the text unless it holds an escape or a continuation: the data itself at its own place, and each that it holds, however
+-- deep, at a place to which whole tokens lead from there.
 pub record IsSlicedFrom (state : ReaderState) (rest : Text) (d : Data) : Type 0 where
   pub own : IsSliced state.rest rest d
   pub strings : StringsAreSliced state.rest state.text d
 
--- The error is one of reading, and the limit's only under a limit. Where the root is a boolean, an integer, a character or the unit, it says that none is read here; where it is a string, that, or that the string holds an escape or a continuation, for which memory is wanted.
+-- The error is one of reading, and the limit's only under a limit. Where the root is a boolean, an integer, a character or the unit, it says that none is read
+-- here; where it is a string, that, or that the string holds an escape or a continuation, for which memory is wanted.
 pub record IsValueRefused (state : ReaderState) (table : Table) (e : Error) : Type 0 where
   pub fault : IsOfReading e
   pub only_limited : e ≡ ExceededRecursionLimit → IsSome state.limit
@@ -150,7 +160,8 @@ pub record IsValueRefused (state : ReaderState) (table : Table) (e : Error) : Ty
 
 -- ---- the reader from call to call
 
--- The text, the extensions and the limit stay. A refusal makes the reader failed for good, and nothing else does; one that has failed answers `Failed`, and nothing of it changes.
+-- The text, the extensions and the limit stay. A refusal makes the reader failed for good, and nothing else does; one that has failed answers `Failed`, and
+-- nothing of it changes.
 pub record Stays {A : Type 0} (old : ReaderState) (result : Result A Error) (new : ReaderState) : Type 0 where
   pub text : new.text ≡ old.text
   pub extensions : new.extensions ≡ old.extensions

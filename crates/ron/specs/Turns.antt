@@ -10,7 +10,8 @@ use Rattle.ron.specs.Reading.{ReaderState}
 abbrev pub turns_allowed : Text → ℕ → ℕ
 turns_allowed text k = 64 * (bytes_in text + 1) * (k + 1)
 
--- What a reader that was made, and has read nothing, has gone over: the head alone, which whole tokens make up, at twice its bytes. `expected` holds what finding the kinds in the text will add, where they aren't known yet.
+-- What a reader that was made, and has read nothing, has gone over: the head alone, which whole tokens make up, at twice its bytes. `expected` holds what
+-- finding the kinds in the text will add, where they aren't known yet.
 pub record HasReadHead (d : ReaderState) : Type 0 where
   pub leads : Leads d.text d.rest
   pub size : bytes_in d.gap + bytes_in d.rest ≤ bytes_in d.text

@@ -77,14 +77,17 @@ AnswersAsReader x limit table text result =
     → MatchResult result (λ d. answer_document x table.shapes table.root room text ≡ ok (data_view d))
     (λ refused. IsFaultOfText (class_of refused.code) (answer_document x table.shapes table.root room text))
 
--- Where a value is read, behind a head and a gap, and behind a gap after it another character than a slash stands, the error is `TrailingCharacters`, or want of memory.
+-- Where a value is read, behind a head and a gap, and behind a gap after it another character than a slash stands, the error is `TrailingCharacters`, or want
+-- of memory.
 abbrev pub RefusesRest : {A : Type 0} → Extensions → Option ℕ → Table → Text → Result A SpannedError → Type 0
 RefusesRest x limit table text result =
     (y : Extensions) (gap body : Text) (room : ℕ) (d : plain.Data) (next : Text) → value_start x text ≡ got (y, gap) body
-    → IsRoom limit (enough table.shapes false table.root (length text)) room → read_at (length gap + length body == length text) y table.shapes room false table.root gap body ≡ got d next → HasRest next
+    → IsRoom limit (enough table.shapes false table.root (length text)) room
+    → read_at (length gap + length body == length text) y table.shapes room false table.root gap body ≡ got d next → HasRest next
     → MatchResult result (λ _. ⊥) (λ refused. (refused.code ≡ TrailingCharacters) ⊎ (refused.code ≡ OutOfMemory))
 
--- A value is spelled behind a head and a gap, and behind the longest gap after it stands another character than a slash: the error's place is before that character.
+-- A value is spelled behind a head and a gap, and behind the longest gap after it stands another character than a slash: the error's place is before that
+-- character.
 pub record TrailsAt (x : Extensions) (limit : Option ℕ) (table : Table) (text : Text) (refused : SpannedError) : Type 0 where
   pub in_force : Extensions
   pub gap : Text
@@ -97,7 +100,8 @@ pub record TrailsAt (x : Extensions) (limit : Option ℕ) (table : Table) (text 
   pub start : IsPositionBefore text (skip next) refused.span.start
   pub end : IsPositionBefore text (skip next) refused.span.end
 
--- Behind a head and a gap a stretch spells the data within the limit, and a gap goes to the end: of that stretch the data is sliced. Each string that it holds, however deep, is a slice of the text unless it holds an escape or a continuation, at a place to which whole tokens lead from there.
+-- Behind a head and a gap a stretch spells the data within the limit, and a gap goes to the end: of that stretch the data is sliced. Each string that it holds,
+-- however deep, is a slice of the text unless it holds an escape or a continuation, at a place to which whole tokens lead from there.
 pub record IsSlicedWhole (x : Extensions) (limit : Option ℕ) (table : Table) (text : Text) (d : Data) : Type 0 where
   pub in_force : Extensions
   pub gap : Text
@@ -111,7 +115,8 @@ pub record IsSlicedWhole (x : Extensions) (limit : Option ℕ) (table : Table) (
 
 -- ---- a text by a schema and without one
 
--- Where nothing is in force behind the head, and the schema has booleans, integers, characters, strings, bytes, units, unit structs, options, lists, tuples, tuple structs and structs alone: what the value of the text without a schema becomes, if it becomes anything, is the data.
+-- Where nothing is in force behind the head, and the schema has booleans, integers, characters, strings, bytes, units, unit structs, options, lists, tuples,
+-- tuple structs and structs alone: what the value of the text without a schema becomes, if it becomes anything, is the data.
 abbrev pub AgreesWithValue : Extensions → Table → Text → plain.Data → Type 0
 AgreesWithValue x table text d =
     list_all agrees table.shapes ≡ true → (body : Text) → EndsHead x text no_extensions body
@@ -124,7 +129,9 @@ pub record IsOnlyData (x : Extensions) (table : Table) (text : Text) (d : plain.
 
 -- ---- how a text is refused
 
--- The error is one of reading or a rest behind a value, the limit's only under a limit, and has a span in the text, that of a rest before its first character. Where the root is a boolean, an integer, a character or the unit, no data is related to the text, unless an attribute stands in it; likewise where it is a string, unless that holds an escape or a continuation, for which memory is wanted.
+-- The error is one of reading or a rest behind a value, the limit's only under a limit, and has a span in the text, that of a rest before its first character.
+-- Where the root is a boolean, an integer, a character or the unit, no data is related to the text, unless an attribute stands in it; likewise where it is a
+-- string, unless that holds an escape or a continuation, for which memory is wanted.
 pub record IsTextRefused (x : Extensions) (limit : Option ℕ) (table : Table) (text : Text) (refused : SpannedError) : Type 0 where
   pub fault : IsOfDocument refused.code
   pub only_limited : refused.code ≡ ExceededRecursionLimit → IsSome limit
@@ -151,9 +158,11 @@ SpellsNormalForm x c d text =
     (table : Table) → is_well_formed table.shapes table.root ≡ true → OfShape table.shapes table.root d
     → (e : plain.Data) × IsReadBackWith c.number_suffixes d e × Document x table.shapes table.root (document_depth x table.shapes table.root text) text e
 
--- The layout of data of the schema by any configuration whose texts are blank, that code can hold, whose Somes the text tells and whose names can be written, is read back as the data's normal form or the same as it, where doc comments end, the limit covers the text's depth and memory is found.
+-- The layout of data of the schema by any configuration whose texts are blank, that code can hold, whose Somes the text tells and whose names can be written,
+-- is read back as the data's normal form or the same as it, where doc comments end, the limit covers the text's depth and memory is found.
 abbrev pub ReadsBack : Extensions → Option ℕ → Table → Text → Result Data SpannedError → Type 0
 ReadsBack x limit table text result =
-    (c : Config) (d : plain.Data) → blank c ≡ true → EndsDocs c d → OfShape table.shapes table.root d → is_encodable (extensions_under x c).implicit_some d ≡ true → names_ok d ≡ true → text ≡ full_layout x c d
+    (c : Config) (d : plain.Data) → blank c ≡ true → EndsDocs c d → OfShape table.shapes table.root d
+    → is_encodable (extensions_under x c).implicit_some d ≡ true → names_ok d ≡ true → text ≡ full_layout x c d
     → IsWithin limit (document_depth x table.shapes table.root text)
     → MatchResult result (λ e. IsReadBackWith c.number_suffixes d (data_view e)) (λ refused. refused.code ≡ OutOfMemory)

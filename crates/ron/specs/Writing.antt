@@ -15,7 +15,9 @@ RefusesHead refuses c e = RefusesBlank c e ⊎ ((blank c ≡ true) × ((w : _) �
 abbrev pub RefusesWriterHead : Config → Error → Type 0
 RefusesWriterHead c e = RefusesBlank c e ⊎ ((blank c ≡ true) × (e ≡ Fmt))
 
--- One that has failed answers `Failed`, and its writer stays. Any other refuses the data, and a front of the layout was put; or a put failed, of the layout or a front of it.
-abbrev pub StopsNext : {W : Type 0} → (W → List ℕ → W → Type 0) → (W → List ℕ → W → Type 0) → (W → Error → Type 0) → Bool → Config → Option ℕ → plain.Data → W → List ℕ → W → Error → Type 0
+-- One that has failed answers `Failed`, and its writer stays. Any other refuses the data, and a front of the layout was put; or a put failed, of the layout or
+-- a front of it.
+abbrev pub StopsNext : {W : Type 0} → (W → List ℕ → W → Type 0) → (W → List ℕ → W → Type 0) → (W → Error → Type 0) → Bool → Config → Option ℕ → plain.Data → W
+    → List ℕ → W → Error → Type 0
 StopsNext took left refuses true c limit d w bytes v e = (e ≡ Failed) × (v ≡ w)
 StopsNext took left refuses false c limit d w bytes v e = StopsText took left refuses (RefusesData c limit d) w bytes v e

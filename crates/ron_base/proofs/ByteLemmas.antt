@@ -1,5 +1,6 @@
 -- Bytes as they are escaped, one at a time: for the byte strings that `ron_ser` writes.
-use Rattle.std.proofs.Common.{◌≡◌, ℕ, ◌<◌, ◌/◌, ◌%◌, Bool, true, false, if◌then◌else◌, ◌&&◌, ◌||◌, ◌==◌, nat_lt, nat_le, ◌≤◌, List, [], ◌∷◌, ◌++◌, Option, Some, None, codes, encode_utf8_all, ◌+◌, is_none, IfSome, subst, refl, sym, ap, ◌∙◌, arith}
+use Rattle.std.proofs.Common.{◌≡◌, ℕ, ◌<◌, ◌/◌, ◌%◌, Bool, true, false, if◌then◌else◌, ◌&&◌, ◌||◌, ◌==◌, nat_lt, nat_le, ◌≤◌, List, [], ◌∷◌, ◌++◌, Option, Some}
+use Rattle.std.proofs.Common.{None, codes, encode_utf8_all, ◌+◌, is_none, IfSome, subst, refl, sym, ap, ◌∙◌, arith}
 use Rattle.std.specs.List.{list_all}
 use Rattle.std.specs.Fmt.{digit_glyph}
 use Rattle.std.specs.Str.{IsAscii}
@@ -24,7 +25,8 @@ byte_is b = go (b == 9) (b == 13) (b == 10) (b == 39) (b == 34) (b == 92) (eqb-t
   where
     go : (t r n u v w : Bool) → (u ≡ true → b ≡ 39) → (v ≡ true → b ≡ 34) → (w ≡ true → b ≡ 92)
         → (if t then codes "\\t" else if r then codes "\\r" else if n then codes "\\n" else if u || (v || w) then 92 ∷ b ∷ [] else byte_as b None)
-        ≡ byte_as b (if t then Some 116 else if r then Some 114 else if n then Some 110 else if u then Some 39 else if v then Some 34 else if w then Some 92 else None)
+        ≡ byte_as b
+        (if t then Some 116 else if r then Some 114 else if n then Some 110 else if u then Some 39 else if v then Some 34 else if w then Some 92 else None)
     go true r n u v w f g h = refl
     go false true n u v w f g h = refl
     go false false true u v w f g h = refl
@@ -51,19 +53,22 @@ byte_as_it_is b h = byte_is b ∙ go (short_byte b) h
 -- ---- they are ASCII
 
 glyph : (d : ℕ) → d < 16 → digit_glyph false d < 128
-glyph d h = elim (nat_lt d 10) as (λ t. nat_lt d 10 ≡ t → (if t then 48 + d else 87 + d) < 128) [ true ↦ λ k. let l = ltb-true d 10 k in omega arith | false ↦ λ k. omega arith ] refl
+glyph d h = elim (nat_lt d 10)
+    as (λ t. nat_lt d 10 ≡ t → (if t then 48 + d else 87 + d) < 128) [ true ↦ λ k. let l = ltb-true d 10 k in omega arith | false ↦ λ k. omega arith ] refl
 
 number_ascii : (b : ℕ) → b < 256 → IsAscii (by_number b)
 number_ascii b small =
     let high = digit_glyph false (b / 16) in
     let low = digit_glyph false (b % 16) in
-    IsAscii-cons 92 (120 ∷ high ∷ low ∷ []) (omega arith) (IsAscii-cons 120 (high ∷ low ∷ []) (omega arith) (IsAscii-cons high (low ∷ []) (glyph (b / 16) (omega arith)) (IsAscii-cons low [] (glyph (b % 16) (omega arith)) IsAscii-nil)))
+    IsAscii-cons 92 (120 ∷ high ∷ low ∷ []) (omega arith) (IsAscii-cons 120 (high ∷ low ∷ []) (omega arith)
+    (IsAscii-cons high (low ∷ []) (glyph (b / 16) (omega arith)) (IsAscii-cons low [] (glyph (b % 16) (omega arith)) IsAscii-nil)))
 
 short_small : (b : ℕ) → IfSome (short_byte b) (λ letter. letter < 128)
 unfolding short_byte
 short_small b = go (b == 9) (b == 13) (b == 10) (b == 39) (b == 34) (b == 92)
   where
-    go : (t r n u v w : Bool) → IfSome (if t then Some 116 else if r then Some 114 else if n then Some 110 else if u then Some 39 else if v then Some 34 else if w then Some 92 else None) (λ letter. letter < 128)
+    go : (t r n u v w : Bool) → IfSome (if t then Some 116 else if r then Some 114 else if n then Some 110 else if u then Some 39 else if v then Some 34
+        else if w then Some 92 else None) (λ letter. letter < 128)
     go true r n u v w = omega arith
     go false true n u v w = omega arith
     go false false true u v w = omega arith
@@ -79,7 +84,8 @@ printed_small : (b : ℕ) → is_printed b ≡ true → b < 128
 printed_small b p = let k : b ≤ 126 = leb-true b 126 (and_parts (nat_le 32 b) (nat_le b 126) p).1 in omega arith
 
 as_ascii : (b : ℕ) (o : Option ℕ) → b < 256 → short_byte b ≡ o → IsAscii (byte_as b o)
-as_ascii b None small e = elim (is_printed b) as (λ t. is_printed b ≡ t → IsAscii (if t then b ∷ [] else by_number b)) [ true ↦ λ p. IsAscii-cons b [] (printed_small b p) IsAscii-nil | false ↦ λ p. number_ascii b small ] refl
+as_ascii b None small e = elim (is_printed b) as (λ t. is_printed b ≡ t
+    → IsAscii (if t then b ∷ [] else by_number b)) [ true ↦ λ p. IsAscii-cons b [] (printed_small b p) IsAscii-nil | false ↦ λ p. number_ascii b small ] refl
 as_ascii b (Some letter) small e = IsAscii-cons 92 (letter ∷ []) (omega arith) (IsAscii-cons letter [] (letter_small b letter e) IsAscii-nil)
 
 pub byte_ascii : (b : ℕ) → b < 256 → IsAscii (escaped_byte b)
@@ -87,7 +93,8 @@ byte_ascii b small = subst IsAscii (sym (byte_is b)) (as_ascii b (short_byte b) 
 
 bytes_ascii : (bs : List ℕ) → list_all (λ b. nat_lt b 256) bs ≡ true → IsAscii (escaped_bytes bs)
 bytes_ascii [] h = IsAscii-nil
-bytes_ascii (b ∷ bs) h = let p = and_parts (nat_lt b 256) (list_all (λ b. nat_lt b 256) bs) h in IsAscii-append (escaped_byte b) (escaped_bytes bs) (byte_ascii b (ltb-true b 256 p.0)) (bytes_ascii bs p.1)
+bytes_ascii (b ∷ bs) h = let p = and_parts (nat_lt b 256) (list_all (λ b. nat_lt b 256) bs) h in
+    IsAscii-append (escaped_byte b) (escaped_bytes bs) (byte_ascii b (ltb-true b 256 p.0)) (bytes_ascii bs p.1)
 
 -- escaped bytes are their own UTF-8
 pub ascii_bytes : (bs : List ℕ) → list_all (λ b. nat_lt b 256) bs ≡ true → encode_utf8_all (escaped_bytes bs) ≡ escaped_bytes bs

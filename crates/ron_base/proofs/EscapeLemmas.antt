@@ -1,5 +1,6 @@
 -- The bytes that escaped characters are written in: for `escape` here and for the runs of strings that `ron_ser` writes.
-use Rattle.std.proofs.Common.{◌≡◌, ℕ, ◌<◌, ◌^◌, not, ◌&&◌, Option, is_none, refl, true, false, cond, List, [], ◌∷◌, ◌++◌, Some, None, codes, flat_map, encode_utf8, encode_utf8_all, sym, ap, ◌∙◌, append-nil, arith, zero, suc, lit≤}
+use Rattle.std.proofs.Common.{◌≡◌, ℕ, ◌<◌, ◌^◌, not, ◌&&◌, Option, is_none, refl, true, false, cond, List, [], ◌∷◌, ◌++◌, Some, None, codes, flat_map}
+use Rattle.std.proofs.Common.{encode_utf8, encode_utf8_all, sym, ap, ◌∙◌, append-nil, arith, zero, suc, lit≤}
 use Rattle.std.specs.Fmt.{digits}
 use Rattle.std.specs.Char.{digit_value}
 use Rattle.std.specs.Str.{IsAscii}
@@ -12,7 +13,8 @@ use Rattle.ron_spec_words.specs.Characters.{Text}
 use Rattle.ron_base.specs.declared.escape.Quotes.{Quotes}
 use Rattle.ron_base.specs.Escape.{short_escape, is_hidden, stands_as_it_is, escaped_as, escaped_char, numbered}
 
-pub shown_short : (quotes : Quotes) (c letter : ℕ) → short_escape quotes c ≡ Some letter → codes "\\" ++ encode_utf8 letter ≡ encode_utf8_all (escaped_char quotes c)
+pub shown_short : (quotes : Quotes) (c letter : ℕ) → short_escape quotes c ≡ Some letter
+    → codes "\\" ++ encode_utf8 letter ≡ encode_utf8_all (escaped_char quotes c)
 unfolding escaped_char lib.Utf8.encode
 shown_short quotes c letter e = ap (λ t. codes "\\" ++ t) (sym (append-nil (encode_utf8 letter))) ∙ ap (λ o. encode_utf8_all (escaped_as c o)) (sym e)
 
@@ -24,7 +26,8 @@ IsAscii-from_hex [] h i = omega arith
 IsAscii-from_hex (d ∷ ds) h zero = is_ascii_digit d h.0
 IsAscii-from_hex (d ∷ ds) h (suc i) = IsAscii-from_hex ds h.1 i
 
-pub shown_hidden : (quotes : Quotes) (c : ℕ) → c < 2 ^ 32 → short_escape quotes c ≡ None → is_hidden c ≡ true → codes "\\u{" ++ (digits 16 false c ++ codes "}") ≡ encode_utf8_all (escaped_char quotes c)
+pub shown_hidden : (quotes : Quotes) (c : ℕ) → c < 2 ^ 32 → short_escape quotes c ≡ None → is_hidden c ≡ true
+    → codes "\\u{" ++ (digits 16 false c ++ codes "}") ≡ encode_utf8_all (escaped_char quotes c)
 unfolding escaped_char lib.Utf8.encode
 shown_hidden quotes c small e h =
     let ascii = IsAscii-from_hex (digits 16 false c) (digits_is_IsNumeral 16 false (lit≤ tt) (lit≤ tt) c (omega arith)).0.1 in
@@ -41,10 +44,12 @@ shown_itself quotes c e h =
     ∙ ap (λ o. encode_utf8_all (escaped_as c o)) (sym e)
 
 -- one character more
-pub shown_more : (quotes : Quotes) (cs : Text) (c : ℕ) → encode_utf8_all (flat_map (escaped_char quotes) cs) ++ encode_utf8_all (escaped_char quotes c) ≡ encode_utf8_all (flat_map (escaped_char quotes) (cs ++ c ∷ []))
+pub shown_more : (quotes : Quotes) (cs : Text) (c : ℕ) → encode_utf8_all (flat_map (escaped_char quotes) cs) ++ encode_utf8_all (escaped_char quotes c)
+    ≡ encode_utf8_all (flat_map (escaped_char quotes) (cs ++ c ∷ []))
 shown_more quotes cs c =
     sym (encodes-append (flat_map (escaped_char quotes) cs) (escaped_char quotes c))
-    ∙ ap encode_utf8_all (ap (λ t. flat_map (escaped_char quotes) cs ++ t) (sym (append-nil (escaped_char quotes c))) ∙ sym (flat_map-append (escaped_char quotes) cs (c ∷ [])))
+    ∙ ap encode_utf8_all
+    (ap (λ t. flat_map (escaped_char quotes) cs ++ t) (sym (append-nil (escaped_char quotes c))) ∙ sym (flat_map-append (escaped_char quotes) cs (c ∷ [])))
 
 -- a character that stands as it is is shown as itself
 pub as_it_is : (quotes : Quotes) (c : ℕ) → stands_as_it_is quotes c ≡ true → escaped_char quotes c ≡ c ∷ []

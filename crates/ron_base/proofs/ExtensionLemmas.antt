@@ -1,5 +1,6 @@
 -- What operations on bits do to a set's four booleans: for the calls of `Extensions`.
-use Rattle.std.proofs.Common.{◌≡◌, ℕ, ◌+◌, ◌*◌, ◌-◌, ◌^◌, ◌<◌, ◌==◌, Bool, not, ◌&&◌, ◌||◌, if◌then◌else◌, List, [], ◌∷◌, length, codes, chars, encode_utf8_all, IsUtf8, Decides, bytes_eq, Option, Some, None, option_map, min, max, bit_and, bit_or, w8, nat_cmp, refl, sym, ap, ◌∙◌, arith}
+use Rattle.std.proofs.Common.{◌≡◌, ℕ, ◌+◌, ◌*◌, ◌-◌, ◌^◌, ◌<◌, ◌==◌, Bool, not, ◌&&◌, ◌||◌, if◌then◌else◌, List, [], ◌∷◌, length, codes, chars, encode_utf8_all}
+use Rattle.std.proofs.Common.{IsUtf8, Decides, bytes_eq, Option, Some, None, option_map, min, max, bit_and, bit_or, w8, nat_cmp, refl, sym, ap, ◌∙◌, arith}
 use Rattle.std.specs.Int.{bit_at}
 use Rattle.std.specs.declared.cmp.Ordering.{Ordering}
 use Rattle.std.proofs.Math.Dec.{eqb-suc-zero}
@@ -68,15 +69,18 @@ union-bits r m n a b h e f = rw (h, ← e, ← f) (set_of_bits-or m n)
 pub intersection-bits : (r m n : ℕ) (a b : ExtensionSet) → r ≡ bit_and m n → set_of_bits m ≡ a → set_of_bits n ≡ b → set_of_bits r ≡ intersection a b
 intersection-bits r m n a b h e f = rw (h, ← e, ← f) (set_of_bits-and m n)
 
-pub difference-bits : (r m n : ℕ) (a b : ExtensionSet) → r ≡ bit_and m (2 ^ 8 - 1 - n) → set_of_bits m ≡ a → set_of_bits n ≡ b → n < 16 → set_of_bits r ≡ difference a b
+pub difference-bits : (r m n : ℕ) (a b : ExtensionSet) → r ≡ bit_and m (2 ^ 8 - 1 - n) → set_of_bits m ≡ a → set_of_bits n ≡ b → n < 16
+    → set_of_bits r ≡ difference a b
 difference-bits r m n a b h e f p = rw (h, ← e, ← f) (set_of_bits-without m n p)
 
 -- ---- order
 
-pub nat_cmp-bits_of : (r : Ordering) (m n : ℕ) (a b : ExtensionSet) → r ≡ nat_cmp m n → set_of_bits m ≡ a → m < 16 → set_of_bits n ≡ b → n < 16 → r ≡ nat_cmp (bits_of a) (bits_of b)
+pub nat_cmp-bits_of : (r : Ordering) (m n : ℕ) (a b : ExtensionSet) → r ≡ nat_cmp m n → set_of_bits m ≡ a → m < 16 → set_of_bits n ≡ b → n < 16
+    → r ≡ nat_cmp (bits_of a) (bits_of b)
 nat_cmp-bits_of r m n a b h e p f q = rw (← e, ← f, bits_of-set_of_bits m p, bits_of-set_of_bits n q) h
 
-pub some_nat_cmp-bits_of : (r : Option Ordering) (m n : ℕ) (a b : ExtensionSet) → r ≡ Some (nat_cmp m n) → set_of_bits m ≡ a → m < 16 → set_of_bits n ≡ b → n < 16 → r ≡ Some (nat_cmp (bits_of a) (bits_of b))
+pub some_nat_cmp-bits_of : (r : Option Ordering) (m n : ℕ) (a b : ExtensionSet) → r ≡ Some (nat_cmp m n) → set_of_bits m ≡ a → m < 16 → set_of_bits n ≡ b
+    → n < 16 → r ≡ Some (nat_cmp (bits_of a) (bits_of b))
 some_nat_cmp-bits_of r m n a b h e p f q = rw (← e, ← f, bits_of-set_of_bits m p, bits_of-set_of_bits n q) h
 
 -- ---- names
@@ -91,13 +95,19 @@ first_of t v = if t.0 then Some v.0 else if t.1 then Some v.1 else if t.2 then S
 
 -- which of the four names a text is
 abbrev names_met : List ℕ → Bool × Bool × Bool × Bool
-names_met name = (bytes_eq (codes "unwrap_newtypes") name, bytes_eq (codes "implicit_some") name, bytes_eq (codes "unwrap_variant_newtypes") name, bytes_eq (codes "explicit_struct_names") name)
+names_met name = (
+  bytes_eq (codes "unwrap_newtypes") name,
+  bytes_eq (codes "implicit_some") name,
+  bytes_eq (codes "unwrap_variant_newtypes") name,
+  bytes_eq (codes "explicit_struct_names") name,
+)
 
 find_name-cons : (x : ℕ) (xs : List ℕ) → find_name table (x ∷ xs) ≡ first_of (names_met (x ∷ xs)) (1, 2, 4, 8)
 unfolding find_row
 find_name-cons x xs = rw (eqb-suc-zero (length xs)) refl
 
-option_map-first_of : (p q r s : Bool) → option_map set_of_bits (first_of (p, q, r, s) (1, 2, 4, 8)) ≡ first_of (p, q, r, s) (set_of_bits 1, set_of_bits 2, set_of_bits 4, set_of_bits 8)
+option_map-first_of : (p q r s : Bool)
+    → option_map set_of_bits (first_of (p, q, r, s) (1, 2, 4, 8)) ≡ first_of (p, q, r, s) (set_of_bits 1, set_of_bits 2, set_of_bits 4, set_of_bits 8)
 option_map-first_of p q r s = grind arith
 
 pub option_map-find_name : (name : List ℕ) → option_map set_of_bits (find_name table name) ≡ extension_of_name name
@@ -116,7 +126,8 @@ find_name-lt (x ∷ xs) n h = let t = names_met (x ∷ xs) in first_of-lt t.0 t.
 -- ASCII bytes are met by the same bytes and by the same characters
 met : (w bs : List ℕ) → chars w ≡ w → encode_utf8_all w ≡ w → IsUtf8 bs → bytes_eq w bs ≡ bytes_eq w (chars bs)
 met w bs c e u =
-    let by_chars : Decides (bytes_eq w bs) (w ≡ chars bs) = (λ t. sym c ∙ ap chars ((bytes_eq-Decides w bs).0 t), λ k. (bytes_eq-Decides w bs).1 (sym e ∙ ap encode_utf8_all k ∙ encodes-chars bs u)) in
+    let by_chars : Decides (bytes_eq w bs) (w ≡ chars bs) =
+    (λ t. sym c ∙ ap chars ((bytes_eq-Decides w bs).0 t), λ k. (bytes_eq-Decides w bs).1 (sym e ∙ ap encode_utf8_all k ∙ encodes-chars bs u)) in
     same_from_decides (bytes_eq w bs) (bytes_eq w (chars bs)) by_chars (bytes_eq-Decides w (chars bs))
 
 pub by_characters : (bs : List ℕ) → IsUtf8 bs → extension_of_name bs ≡ extension_of_name (chars bs)

@@ -1,11 +1,13 @@
 -- Escaped texts: what stands for each character between quotation marks.
-use Rattle.std.specs.Prelude.{ℕ, Bool, true, false, not, ◌&&◌, ◌||◌, ◌==◌, ◌/◌, ◌%◌, nat_le, List, [], ◌∷◌, ◌++◌, Option, Some, None, if◌then◌else◌, nat_lt, codes, flat_map, chars, encode_utf8_all}
+use Rattle.std.specs.Prelude.{ℕ, Bool, true, false, not, ◌&&◌, ◌||◌, ◌==◌, ◌/◌, ◌%◌, nat_le, List, [], ◌∷◌, ◌++◌, Option, Some, None, if◌then◌else◌, nat_lt}
+use Rattle.std.specs.Prelude.{codes, flat_map, chars, encode_utf8_all}
 use Rattle.std.specs.Char.{is_ascii_control}
 use Rattle.std.specs.Fmt.{digits, digit_glyph}
 use Rattle.std.specs.Option.{is_none}
 use Rattle.unicode.specs.GeneralCategory.{general_category}
 use Rattle.unicode.specs.declared.properties.GeneralCategory.{GeneralCategory}
-use Rattle.unicode.specs.declared.properties.GeneralCategory.TheVariants.{Control, Format, PrivateUse, Unassigned, LineSeparator, ParagraphSeparator, SpaceSeparator, NonspacingMark, EnclosingMark}
+use Rattle.unicode.specs.declared.properties.GeneralCategory.TheVariants.{Control, Format, PrivateUse, Unassigned, LineSeparator, ParagraphSeparator}
+use Rattle.unicode.specs.declared.properties.GeneralCategory.TheVariants.{SpaceSeparator, NonspacingMark, EnclosingMark}
 use Rattle.ron_spec_words.specs.Characters.{Text, backslash, carriage_return, double_quote, line_feed, single_quote, small_n, small_r, small_t, tab, zero_digit}
 use Rattle.ron_base.specs.declared.escape.Quotes.{Quotes}
 use Rattle.ron_base.specs.declared.escape.Quotes.TheVariants.{Both, Double, Single}

@@ -1,7 +1,8 @@
 -- What an error says of a fault.
 use Rattle.std.specs.Prelude.{ℕ, List, codes}
 use Rattle.ron_base.specs.declared.error.fault.EscapeFault.{EscapeFault}
-use Rattle.ron_base.specs.declared.error.fault.EscapeFault.TheVariants.{UnknownCharacter, NonHexDigit, BytesOfNoCharacter, MissingBrace, NoDigits, MissingClosingBrace, NoCharacter, UnicodeInByte}
+use Rattle.ron_base.specs.declared.error.fault.EscapeFault.TheVariants.{UnknownCharacter, NonHexDigit, BytesOfNoCharacter, MissingBrace, NoDigits}
+use Rattle.ron_base.specs.declared.error.fault.EscapeFault.TheVariants.{MissingClosingBrace, NoCharacter, UnicodeInByte}
 use Rattle.ron_base.specs.declared.error.fault.SchemaFault.{SchemaFault}
 use Rattle.ron_base.specs.declared.error.fault.SchemaFault.TheVariants.{IndexOutOfRange, Cycle, DuplicateName, MissingRangeField}
 

@@ -71,16 +71,21 @@ message error.UnderscoreAtBeginning = codes "Unexpected leading underscore in a 
 message (error.UnexpectedChar c) = codes "Unexpected char " ++ quoted_char c
 message (error.Utf8Error fault) = []
 message error.TrailingCharacters = codes "Non-whitespace trailing characters"
-message (error.InvalidValueForType expected found) = codes "Expected " ++ (string_bytes expected ++ (codes " but found " ++ (string_bytes found ++ codes " instead")))
-message (error.ExpectedDifferentLength expected found) = codes "Expected " ++ (string_bytes expected ++ (codes " but found " ++ (elements found ++ codes " instead")))
+message (error.InvalidValueForType expected found) =
+    codes "Expected " ++ (string_bytes expected ++ (codes " but found " ++ (string_bytes found ++ codes " instead")))
+message (error.ExpectedDifferentLength expected found) =
+    codes "Expected " ++ (string_bytes expected ++ (codes " but found " ++ (elements found ++ codes " instead")))
 message (error.NoSuchEnumVariant expected found outer) = unknown_variant found outer ++ (codes ", " ++ alternatives (codes "variants") expected.items)
-message (error.NoSuchStructField expected found outer) = codes "Unexpected field named " ++ (shown found ++ (in_struct outer ++ (codes ", " ++ alternatives (codes "fields") expected.items)))
+message (error.NoSuchStructField expected found outer) =
+    codes "Unexpected field named " ++ (shown found ++ (in_struct outer ++ (codes ", " ++ alternatives (codes "fields") expected.items)))
 message (error.MissingStructField field outer) = codes "Unexpected missing field named " ++ (shown field ++ in_struct outer)
 message (error.DuplicateStructField field outer) = codes "Unexpected duplicate field named " ++ (shown field ++ in_struct outer)
 message (error.InvalidIdentifier name) = codes "Invalid identifier " ++ quoted (string_bytes name)
-message (error.SuggestRawIdentifier name) = codes "Found invalid std identifier " ++ (quoted (string_bytes name) ++ (codes ", try the raw identifier `r#" ++ (string_bytes name ++ codes "` instead")))
+message (error.SuggestRawIdentifier name) =
+    codes "Found invalid std identifier " ++ (quoted (string_bytes name) ++ (codes ", try the raw identifier `r#" ++ (string_bytes name ++ codes "` instead")))
 message error.ExpectedRawValue = codes "Expected a `ron::value::RawValue`"
-message error.ExceededRecursionLimit = codes "Exceeded recursion limit, try increasing `ron::Options::recursion_limit` and using `serde_stacker` to protect against a stack overflow"
+message error.ExceededRecursionLimit =
+    codes "Exceeded recursion limit, try increasing `ron::Options::recursion_limit` and using `serde_stacker` to protect against a stack overflow"
 message (error.ExpectedStructName name) = codes "Expected the explicit struct name " ++ (shown name ++ codes ", but none was found")
 message error.ExpectedRangeSyntax = codes "Expected `..` or `..=` for range syntax"
 message error.UnsupportedFloat = codes "Floating-point numbers are not supported"

@@ -17,7 +17,8 @@ abbrev pub name_of : {S : Type 0} → Gathered S → GName
 name_of g = g.sink.ghost_name
 
 -- Bytes came behind those that were held: a front of them all was pushed, and the rest is held.
-pub record Gathers {S : Type 0} (failed : S → Bool) (contents : S → Option (List ℕ)) (device : S → Option GName) (g : Gathered S) (bytes : List ℕ) (h : Gathered S) : Type 0 where
+pub record Gathers {S : Type 0} (failed : S → Bool) (contents : S → Option (List ℕ)) (device : S → Option GName) (g : Gathered S) (bytes : List ℕ)
+    (h : Gathered S) : Type 0 where
   pub pushed : List ℕ
   pub whole : held g ++ bytes ≡ pushed ++ held h
   pub taken : Appends (contents (sink_of g)) (contents (sink_of h)) pushed

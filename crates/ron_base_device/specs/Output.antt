@@ -35,8 +35,10 @@ Put None (Some fault) Taken Failed Same = Failed fault
 Put (Some fault) after Taken Failed Same = Same
 
 -- A put is taken, or it fails and the fault is kept; where there is a fault already, nothing is done.
-pub record PutsText {W P : Type 0} (took left : W → List ℕ → W → Type 0) (refuses : W → Error → Type 0) (o : TextOutput W P) (bytes : List ℕ) (p : TextOutput W P) : Type 0 where
-  pub put : Put (fault_of o) (fault_of p) (took (writer_of o) bytes (writer_of p)) (λ fault. left (writer_of o) bytes (writer_of p) × refuses (writer_of p) fault) ((writer_of p ≡ writer_of o) × (fault_of p ≡ fault_of o))
+pub record PutsText {W P : Type 0} (took left : W → List ℕ → W → Type 0) (refuses : W → Error → Type 0) (o : TextOutput W P) (bytes : List ℕ)
+    (p : TextOutput W P) : Type 0 where
+  pub put : Put (fault_of o) (fault_of p) (took (writer_of o) bytes (writer_of p))
+      (λ fault. left (writer_of o) bytes (writer_of p) × refuses (writer_of p) fault) ((writer_of p ≡ writer_of o) × (fault_of p ≡ fault_of o))
   pub same_writer : name_of_writer p ≡ name_of_writer o
   pub same_fault : name_of_fault p ≡ name_of_fault o
 
@@ -50,5 +52,6 @@ IsAnswer (Some fault) written result = result ≡ Err fault
 -- is refused; so each stands with its error (`StopsText`).
 --
 -- An error stopped the writing of a text: one of what was to be written, and a front of the text was put; or that of a put, which broke off.
-abbrev pub StopsText : {W : Type 0} → (W → List ℕ → W → Type 0) → (W → List ℕ → W → Type 0) → (W → Error → Type 0) → (Error → Type 0) → W → List ℕ → W → Error → Type 0
+abbrev pub StopsText : {W : Type 0} → (W → List ℕ → W → Type 0) → (W → List ℕ → W → Type 0) → (W → Error → Type 0) → (Error → Type 0) → W → List ℕ → W → Error
+    → Type 0
 StopsText took left refuses Refused w text v e = (Refused e × HasBegun took w text v) ⊎ (refuses v e × HasBroken took left w text v)

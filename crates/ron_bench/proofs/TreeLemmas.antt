@@ -9,7 +9,8 @@ use Rattle.ron_bench.specs.declared.tree.Leaf.{Leaf}
 use Rattle.ron_bench.specs.declared.tree.Leaf.TheVariants.{Points, Records, Entities}
 use Rattle.ron_bench.specs.Tree.{variant, twofold, kind_shape, leaf_shape, tree_shapes}
 
-twofold_texts : (name first second : Text) (i : ℕ) → scalars name ≡ true → scalars first ≡ true → scalars second ≡ true → twofold (chars (encodes name)) (chars (encodes first)) (chars (encodes second)) i ≡ twofold name first second i
+twofold_texts : (name first second : Text) (i : ℕ) → scalars name ≡ true → scalars first ≡ true → scalars second ≡ true
+    → twofold (chars (encodes name)) (chars (encodes first)) (chars (encodes second)) i ≡ twofold name first second i
 twofold_texts name first second i h f s = rw (chars-encodes name h, chars-encodes first f, chars-encodes second s) refl
 
 pub point_texts : twofold (chars (codes "Point")) (chars (codes "x")) (chars (codes "y")) 0 ≡ leaf_shape Points
@@ -85,15 +86,20 @@ unfolding encode
 fragile_text = chars-encodes (codes "fragile") refl
 
 -- a struct of this name and these fields is the record's shape
-pub record_is : (shape : Shape) (fields : List Field) → shape ≡ struct (chars (codes "Record")) (only fields) → fields ≡ field (chars (codes "name")) 1 ∷ field (chars (codes "data")) 2 ∷ field (chars (codes "id")) 3 ∷ field (chars (codes "size")) 4 ∷ [] → shape ≡ leaf_shape Records
+pub record_is : (shape : Shape) (fields : List Field) → shape ≡ struct (chars (codes "Record")) (only fields) → fields ≡ field (chars (codes "name")) 1
+    ∷ field (chars (codes "data")) 2 ∷ field (chars (codes "id")) 3 ∷ field (chars (codes "size")) 4 ∷ [] → shape ≡ leaf_shape Records
 record_is shape fields is same = rw (is, same, record_text, name_text, data_text, id_text, size_text) refl
 
 -- likewise the entity's
-pub entity_is : (shape : Shape) (fields : List Field) → shape ≡ struct (chars (codes "Entity")) (only fields) → fields ≡ field (chars (codes "name")) 1 ∷ field (chars (codes "tags")) 6 ∷ field (chars (codes "level")) 7 ∷ field (chars (codes "kind")) 9 ∷ field (chars (codes "stats")) 8 ∷ [] → shape ≡ leaf_shape Entities
+pub entity_is : (shape : Shape) (fields : List Field) → shape ≡ struct (chars (codes "Entity")) (only fields) → fields ≡ field (chars (codes "name")) 1
+    ∷ field (chars (codes "tags")) 6 ∷ field (chars (codes "level")) 7 ∷ field (chars (codes "kind")) 9 ∷ field (chars (codes "stats")) 8 ∷ []
+    → shape ≡ leaf_shape Entities
 entity_is shape fields is same = rw (is, same, entity_text, name_text, tags_text, level_text, kind_text, stats_text) refl
 
 -- and an entity's kind
-pub kind_is : (shape : Shape) (variants : List Variant) → shape ≡ enum (chars (codes "Kind")) variants → variants ≡ variant (chars (codes "Player")) unit_variant ∷ variant (chars (codes "Npc")) (newtype_variant 4) ∷ variant (chars (codes "Item")) (struct_variant (only (field (chars (codes "weight")) 4 ∷ field (chars (codes "fragile")) 5 ∷ []))) ∷ [] → shape ≡ kind_shape
+pub kind_is : (shape : Shape) (variants : List Variant) → shape ≡ enum (chars (codes "Kind")) variants
+    → variants ≡ variant (chars (codes "Player")) unit_variant ∷ variant (chars (codes "Npc")) (newtype_variant 4) ∷ variant (chars (codes "Item"))
+    (struct_variant (only (field (chars (codes "weight")) 4 ∷ field (chars (codes "fragile")) 5 ∷ []))) ∷ [] → shape ≡ kind_shape
 kind_is shape variants is same = rw (is, same, kind_name_text, player_text, npc_text, item_text, weight_text, fragile_text) refl
 
 pub one_level_more : (leaf : Leaf) (n : ℕ) → tree_shapes leaf (n + 1) ≡ tree_shapes leaf n ++ twofold (codes "Pair") (codes "a") (codes "b") (n + 10) ∷ []

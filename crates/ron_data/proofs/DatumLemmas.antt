@@ -44,10 +44,12 @@ in_turn : (fs : List (String Global × Data)) → fields_in_turn fs ≡ fields_v
 in_turn [] = refl
 in_turn (f ∷ fs) = ap (plain.field_and (chars (string_bytes f.0)) (data_view f.1)) (in_turn fs)
 
-step : (name : String Global) (fields : Vec (String Global × Data) Global) → data_view (data_.Struct name fields) ≡ plain.struct_of (chars (string_bytes name)) (fields_in_turn fields.items)
+step : (name : String Global) (fields : Vec (String Global × Data) Global)
+    → data_view (data_.Struct name fields) ≡ plain.struct_of (chars (string_bytes name)) (fields_in_turn fields.items)
 step name fields = search (rules, the_lemmas)
 
-pub view-struct : (name : String Global) (fields : Vec (String Global × Data) Global) → data_view (data_.Struct name fields) ≡ plain.struct_of (chars (string_bytes name)) (fields_view fields.items)
+pub view-struct : (name : String Global) (fields : Vec (String Global × Data) Global)
+    → data_view (data_.Struct name fields) ≡ plain.struct_of (chars (string_bytes name)) (fields_view fields.items)
 view-struct name fields = step name fields ∙ ap (plain.struct_of (chars (string_bytes name))) (in_turn fields.items)
 
 -- ---- what holds no others
@@ -80,13 +82,16 @@ view-some d = search (rules, the_lemmas)
 pub view-unit_struct : (name : String Global) → data_view (data_.UnitStruct name) ≡ plain.unit_struct_of (chars (string_bytes name))
 view-unit_struct name = search (rules, the_lemmas)
 
-pub view-newtype : (name : String Global) (d : Box Data Global) → data_view (data_.Newtype name d) ≡ plain.newtype_of (chars (string_bytes name)) (data_view d.value)
+pub view-newtype : (name : String Global) (d : Box Data Global)
+    → data_view (data_.Newtype name d) ≡ plain.newtype_of (chars (string_bytes name)) (data_view d.value)
 view-newtype name d = search (rules, the_lemmas)
 
-pub view-tuple_struct : (name : String Global) (ds : Vec Data Global) → data_view (data_.TupleStruct name ds) ≡ plain.tuple_struct_of (chars (string_bytes name)) (items_view ds.items)
+pub view-tuple_struct : (name : String Global) (ds : Vec Data Global)
+    → data_view (data_.TupleStruct name ds) ≡ plain.tuple_struct_of (chars (string_bytes name)) (items_view ds.items)
 view-tuple_struct name ds = search (rules, the_lemmas)
 
-pub view-variant : (name v : String Global) (content : VariantData) → data_view (data_.Variant name v content) ≡ variant_of (chars (string_bytes name)) (chars (string_bytes v)) (content_view content)
+pub view-variant : (name v : String Global) (content : VariantData)
+    → data_view (data_.Variant name v content) ≡ variant_of (chars (string_bytes name)) (chars (string_bytes v)) (content_view content)
 view-variant name v content = search (rules, the_lemmas)
 
 pub view-no_content : content_view content_.Unit ≡ no_content

@@ -1,5 +1,6 @@
 -- Entries that are put in one by one, and where each key is found: for `places` and `put_at` of `pairs.rt`.
-use Rattle.std.proofs.Common.{◌≡◌, ◌≤◌, ◌<◌, ◌+◌, ℕ, suc, Bool, true, false, cond, List, [], ◌∷◌, ◌++◌, length, get_or, set, Option, Some, None, refl, sym, ap, ◌∙◌, arith}
+use Rattle.std.proofs.Common.{◌≡◌, ◌≤◌, ◌<◌, ◌+◌, ℕ, suc, Bool, true, false, cond, List, [], ◌∷◌, ◌++◌, length, get_or, set, Option, Some, None, refl, sym, ap}
+use Rattle.std.proofs.Common.{◌∙◌, arith}
 use Rattle.std.specs.declared.cmp.Ordering.{Ordering}
 use Rattle.std.specs.declared.cmp.Ordering.TheVariants.{Less, Equal, Greater}
 use Rattle.std.specs.Option.{is_some, option_map, unwrap_or}
@@ -27,7 +28,8 @@ abbrev pub borrowed_cmp : {K : Type 0} → (K → K → Ordering) → Bor K → 
 borrowed_cmp R k l = R k.now l.now
 
 -- a key that takes another place in a tree and then its own one again
-placed_again : {K : Type 0} (R : K → K → Ordering) (tree between next : BTreeMap (Bor K) ℕ) (key k : Bor K) (other place : ℕ) → Updates (borrowed_cmp R) tree between key (Some other) → Updates (borrowed_cmp R) between next key (Some place)
+placed_again : {K : Type 0} (R : K → K → Ordering) (tree between next : BTreeMap (Bor K) ℕ) (key k : Bor K) (other place : ℕ)
+    → Updates (borrowed_cmp R) tree between key (Some other) → Updates (borrowed_cmp R) between next key (Some place)
     → get (borrowed_cmp R) next k ≡ cond (is_eq (R key.now k.now)) (Some place) (get (borrowed_cmp R) tree k)
 placed_again R tree between next key k other place one two = two.0 k ∙ ap (cond (is_eq (R key.now k.now)) (Some place)) (one.0 k) ∙ go (is_eq (R key.now k.now))
   where
@@ -55,7 +57,8 @@ module _ {K V : Type 0} (R : K → K → Ordering) where
       go true later t = absurd (omega (arith, t))
       go false later t = ap (λ rest. e ∷ rest) (later (omega (arith, t)))
 
-  pub put_again : (es : List (K × V)) (p e : K × V) → place_in R p.0 es < length es → e ≡ get_or es (place_in R p.0 es) e → set es (place_in R p.0 es) (e.0, p.1) ≡ with_entry R es p
+  pub put_again : (es : List (K × V)) (p e : K × V) → place_in R p.0 es < length es → e ≡ get_or es (place_in R p.0 es) e
+      → set es (place_in R p.0 es) (e.0, p.1) ≡ with_entry R es p
   put_again [] p e lt at = absurd (omega (arith, lt))
   put_again (d ∷ es) p e lt at = go (is_eq (R p.0 d.0)) (put_again es p e) lt at
     where
@@ -90,7 +93,8 @@ module _ {K V : Type 0} (R : K → K → Ordering) where
   place_is k [] = refl
   place_is k (e ∷ es) = go (is_eq (R k e.0)) (found_at k es) (place_is k es)
     where
-      go : (b : Bool) (o : Option ℕ) → unwrap_or o (length es) ≡ place_in R k es → unwrap_or (cond b (Some 0) (option_map suc o)) (suc (length es)) ≡ cond b 0 (suc (place_in R k es))
+      go : (b : Bool) (o : Option ℕ) → unwrap_or o (length es) ≡ place_in R k es
+          → unwrap_or (cond b (Some 0) (option_map suc o)) (suc (length es)) ≡ cond b 0 (suc (place_in R k es))
       go true o h = refl
       go false None h = ap suc h
       go false (Some n) h = ap suc h
@@ -129,7 +133,8 @@ module _ {K V : Type 0} (R : K → K → Ordering) where
     found_alike k l [] same = refl
     found_alike k l (e ∷ es) same = λ i. cond (is_eq (total.congr k l e.0 same i)) (Some 0) (option_map suc (found_alike k l es same i))
 
-    pub found_with : (k : K) (es : List (K × V)) (p : K × V) → found_at k (with_entry R es p) ≡ cond (is_eq (R p.0 k)) (Some (place_in R p.0 es)) (found_at k es)
+    pub found_with : (k : K) (es : List (K × V)) (p : K × V)
+        → found_at k (with_entry R es p) ≡ cond (is_eq (R p.0 k)) (Some (place_in R p.0 es)) (found_at k es)
     found_with k es p = go (is_eq (R p.0 k)) refl
       where
         go : (b : Bool) → is_eq (R p.0 k) ≡ b → found_at k (with_entry R es p) ≡ cond b (Some (place_in R p.0 es)) (found_at k es)
@@ -147,28 +152,33 @@ module _ {K V : Type 0} (R : K → K → Ordering) where
 
   one_found : IsTotalOrder R → (all rest : List (K × V)) (tree next : BTreeMap (Bor K) ℕ) (places : List ℕ) (key : Bor K) (value : V) (place : ℕ)
       → FoundSoFar all ((key.now, value) ∷ rest) tree places → place ≡ unwrap_or (get (borrowed_cmp R) tree key) (btree_map_len tree)
-      → ((k : Bor K) → get (borrowed_cmp R) next k ≡ cond (is_eq (R key.now k.now)) (Some place) (get (borrowed_cmp R) tree k)) → btree_map_len next ≡ btree_map_len tree + cond (is_some (get (borrowed_cmp R) tree key)) 0 1
+      → ((k : Bor K) → get (borrowed_cmp R) next k ≡ cond (is_eq (R key.now k.now)) (Some place) (get (borrowed_cmp R) tree k))
+      → btree_map_len next ≡ btree_map_len tree + cond (is_some (get (borrowed_cmp R) tree key)) 0 1
       → FoundSoFar all rest next (places ++ place ∷ [])
   one_found total all rest tree next places key value place h p updates len =
       let s = h.so_far in
       let e : place ≡ place_in R key.now s = p ∙ (λ i. unwrap_or (h.found key i) (h.count i)) ∙ place_is key.now s in
       record {
         so_far = with_entry R s (key.now, value);
-        told = append_assoc places (place ∷ []) (places_in R (with_entry R s (key.now, value)) rest) ∙ ap (λ n. places ++ n ∷ places_in R (with_entry R s (key.now, value)) rest) e ∙ h.told;
+        told = append_assoc places (place ∷ []) (places_in R (with_entry R s (key.now, value)) rest)
+            ∙ ap (λ n. places ++ n ∷ places_in R (with_entry R s (key.now, value)) rest) e ∙ h.told;
         found = λ k. updates k ∙ (λ i. cond (is_eq (R key.now k.now)) (Some (e i)) (h.found k i)) ∙ sym (found_with total k.now s (key.now, value));
         count = len ∙ (λ i. h.count i + cond (is_some (h.found key i)) 0 1) ∙ sym (length_with s (key.now, value));
       }
 
   -- a key that the tree didn't have
-  pub new_found : IsTotalOrder R → (all rest : List (K × V)) (tree next : BTreeMap (Bor K) ℕ) (places : List ℕ) (key : Bor K) (value : V) (place : ℕ) (old : Option ℕ)
+  pub new_found : IsTotalOrder R
+      → (all rest : List (K × V)) (tree next : BTreeMap (Bor K) ℕ) (places : List ℕ) (key : Bor K) (value : V) (place : ℕ) (old : Option ℕ)
       → FoundSoFar all ((key.now, value) ∷ rest) tree places → place ≡ btree_map_len tree → old ≡ get (borrowed_cmp R) tree key → old ≡ None
       → Updates (borrowed_cmp R) tree next key (Some place) → btree_map_len next ≡ btree_map_len tree + cond (is_some old) 0 1
       → FoundSoFar all rest next (places ++ place ∷ [])
   new_found total all rest tree next places key value place old h last was none updates len =
-      one_found total all rest tree next places key value place h (last ∙ ap (λ o. unwrap_or o (btree_map_len tree)) (sym none ∙ was)) updates.0 (len ∙ ap (λ o. btree_map_len tree + cond (is_some o) 0 1) was)
+      one_found total all rest tree next places key value place h (last ∙ ap (λ o. unwrap_or o (btree_map_len tree)) (sym none ∙ was)) updates.0
+      (len ∙ ap (λ o. btree_map_len tree + cond (is_some o) 0 1) was)
 
   -- a key that it had at a place, which it has there again
-  pub found_again : IsTotalOrder R → (all rest : List (K × V)) (tree between next : BTreeMap (Bor K) ℕ) (places : List ℕ) (key : Bor K) (value : V) (other place : ℕ) (old last : Option ℕ)
+  pub found_again : IsTotalOrder R
+      → (all rest : List (K × V)) (tree between next : BTreeMap (Bor K) ℕ) (places : List ℕ) (key : Bor K) (value : V) (other place : ℕ) (old last : Option ℕ)
       → FoundSoFar all ((key.now, value) ∷ rest) tree places → old ≡ get (borrowed_cmp R) tree key → old ≡ Some place → last ≡ get (borrowed_cmp R) between key
       → Updates (borrowed_cmp R) tree between key (Some other) → btree_map_len between ≡ btree_map_len tree + cond (is_some old) 0 1
       → Updates (borrowed_cmp R) between next key (Some place) → btree_map_len next ≡ btree_map_len between + cond (is_some last) 0 1
@@ -178,4 +188,5 @@ module _ {K V : Type 0} (R : K → K → Ordering) where
       let same : btree_map_len between ≡ btree_map_len tree + 0 = one_len ∙ ap (λ o. btree_map_len tree + cond (is_some o) 0 1) at in
       let again : btree_map_len next ≡ btree_map_len between + 0 = two_len ∙ ap (λ o. btree_map_len between + cond (is_some o) 0 1) (put ∙ one.1) in
       let len : btree_map_len next ≡ btree_map_len tree + 0 = omega (arith, same, again) in
-      one_found total all rest tree next places key value place h (ap (λ o. unwrap_or o (btree_map_len tree)) here) (λ k. placed_again R tree between next key k other place one two) (len ∙ ap (λ o. btree_map_len tree + cond (is_some o) 0 1) here)
+      one_found total all rest tree next places key value place h (ap (λ o. unwrap_or o (btree_map_len tree)) here)
+      (λ k. placed_again R tree between next key k other place one two) (len ∙ ap (λ o. btree_map_len tree + cond (is_some o) 0 1) here)

@@ -1,5 +1,6 @@
 -- The items that slots hold, by field: for the readers and conversions that fill slots.
-use Rattle.std.proofs.Common.{◌≡◌, ℕ, zero, suc, Bool, true, false, not, List, [], ◌∷◌, map, Option, Some, None, option_map, slice_get, find, refl, sym, ap, ◌∙◌}
+use Rattle.std.proofs.Common.{◌≡◌, ℕ, zero, suc, Bool, true, false, not, List, [], ◌∷◌, map, Option, Some, None, option_map, slice_get, find, refl, sym, ap}
+use Rattle.std.proofs.Common.{◌∙◌}
 use Rattle.std.specs.List.{list_any}
 use Rattle.ron_spec_grammar.specs.Data as plain
 use Rattle.ron_spec_grammar.specs.Schema.{Field}
@@ -17,7 +18,8 @@ none_at test (y ∷ xs) zero a h e = let same : a ≡ y = cc in ap test same ∙
 none_at test (y ∷ xs) (suc i) a h e = none_at test xs i a (nor (test y) (list_any test xs) h).1 e
 
 -- empty slots hold no items
-pub slots-nothing : (fields : List FieldShape) (slots : List (Option Data)) → slots ≡ map (λ _. None) fields → AreSlotsOf (slots_view slots) (map field_view fields) []
+pub slots-nothing : (fields : List FieldShape) (slots : List (Option Data)) → slots ≡ map (λ _. None) fields
+    → AreSlotsOf (slots_view slots) (map field_view fields) []
 slots-nothing fields slots e = ap slots_view e ∙ go fields
   where
     go : (fields : List FieldShape) → slots_view (map (λ _. None) fields) ≡ map (slot_of []) (map field_view fields)
@@ -26,10 +28,12 @@ slots-nothing fields slots e = ap slots_view e ∙ go fields
 
 -- the fields from their slots are the items in the list's order
 
-slot_item : (items : List Item) (f : Field) (rest : Option plain.Fields) → with_item f.may_be_missing (option_map (λ d. (f.name, d)) (slot_of items f)) rest ≡ with_item f.may_be_missing (find (is_of f.name) items) rest
+slot_item : (items : List Item) (f : Field) (rest : Option plain.Fields)
+    → with_item f.may_be_missing (option_map (λ d. (f.name, d)) (slot_of items f)) rest ≡ with_item f.may_be_missing (find (is_of f.name) items) rest
 slot_item items f rest = go (find (is_of f.name) items) refl
   where
-    go : (o : Option Item) → find (is_of f.name) items ≡ o → with_item f.may_be_missing (option_map (λ (d : plain.Data). (f.name, d)) (option_map (λ (i : Item). i.1) o)) rest ≡ with_item f.may_be_missing o rest
+    go : (o : Option Item) → find (is_of f.name) items ≡ o
+        → with_item f.may_be_missing (option_map (λ (d : plain.Data). (f.name, d)) (option_map (λ (i : Item). i.1) o)) rest ≡ with_item f.may_be_missing o rest
     go None e = refl
     go (Some item) e =
         let named : item.0 ≡ f.name = same_is item.0 f.name (find_some (λ _. Unit {0}) (is_of f.name) items item e (each_any items)).0 in
@@ -37,7 +41,9 @@ slot_item items f rest = go (find (is_of f.name) items) refl
 
 filled_seen : (fields : List Field) (items : List Item) → filled fields (map (slot_of items) fields) ≡ arranged fields items
 filled_seen [] items = refl
-filled_seen (f ∷ fields) items = ap (with_item f.may_be_missing (option_map (λ d. (f.name, d)) (slot_of items f))) (filled_seen fields items) ∙ slot_item items f (arranged fields items)
+filled_seen (f ∷ fields) items =
+    ap (with_item f.may_be_missing (option_map (λ d. (f.name, d)) (slot_of items f))) (filled_seen fields items) ∙ slot_item items f (arranged fields items)
 
-pub filled_is : (fields : List Field) (items : List Item) (slots : List (Option plain.Data)) → AreSlotsOf slots fields items → filled fields slots ≡ arranged fields items
+pub filled_is : (fields : List Field) (items : List Item) (slots : List (Option plain.Data)) → AreSlotsOf slots fields items
+    → filled fields slots ≡ arranged fields items
 filled_is fields items slots h = ap (filled fields) h ∙ filled_seen fields items

@@ -5,7 +5,8 @@ use Rattle.std.specs.Cmp.Lexicographic.{slice_cmp}
 use Rattle.ron_spec_words.specs.Characters.{Text}
 use Rattle.ron_value.specs.Node.{Node, node_cmp, nodes_cmp}
 use Rattle.ron_value.specs.OrderLaws.{then_Equal, then_assoc, unsigneds_cmp}
-use Rattle.ron_spec_grammar.specs.Data.{Data, str_of, bytes_of, some_of, unit_struct_of, list_of, tuple_of, tuple_struct_of, map_of, newtype_of, struct_of, raw_of, datas}
+use Rattle.ron_spec_grammar.specs.Data.{Data, str_of, bytes_of, some_of, unit_struct_of, list_of, tuple_of, tuple_struct_of, map_of, newtype_of, struct_of}
+use Rattle.ron_spec_grammar.specs.Data.{raw_of, datas}
 use Rattle.ron_data.specs.Datum.{Content, no_content, one_of, items_of, named_of, variant_of, pairs_of, fields_of}
 use Rattle.ron_data.specs.Order.{node_of, variant_node, item_nodes, field_nodes, data_cmp, content_data, text_cmp, pair_cmp, field_cmp}
 
@@ -53,10 +54,12 @@ unit_structs_cmp s t = then_Equal _ ∙ unsigneds_cmp s t
 pub newtypes_cmp : (s t : Text) (d e : Data) → data_cmp (newtype_of s d) (newtype_of t e) ≡ ordering_then (text_cmp s t) (data_cmp d e)
 newtypes_cmp s t d e = λ i. ordering_then (unsigneds_cmp s t i) (then_Equal (data_cmp d e) i)
 
-pub tuple_structs_cmp : (s t : Text) (ds es : List Data) → data_cmp (tuple_struct_of s (datas ds)) (tuple_struct_of t (datas es)) ≡ ordering_then (text_cmp s t) (slice_cmp data_cmp ds es)
+pub tuple_structs_cmp : (s t : Text) (ds es : List Data)
+    → data_cmp (tuple_struct_of s (datas ds)) (tuple_struct_of t (datas es)) ≡ ordering_then (text_cmp s t) (slice_cmp data_cmp ds es)
 tuple_structs_cmp s t ds es = λ i. ordering_then (unsigneds_cmp s t i) (items_cmp ds es i)
 
-pub structs_cmp : (s t : Text) (fs gs : List (Text × Data)) → data_cmp (struct_of s (fields_of fs)) (struct_of t (fields_of gs)) ≡ ordering_then (text_cmp s t) (slice_cmp field_cmp fs gs)
+pub structs_cmp : (s t : Text) (fs gs : List (Text × Data))
+    → data_cmp (struct_of s (fields_of fs)) (struct_of t (fields_of gs)) ≡ ordering_then (text_cmp s t) (slice_cmp field_cmp fs gs)
 structs_cmp s t fs gs = λ i. ordering_then (unsigneds_cmp s t i) (fields_cmp fs gs i)
 
 -- the fields of a variant, as those of a struct without a name
@@ -70,12 +73,14 @@ variant_is s v (one_of d) = refl
 variant_is s v (items_of ds) = refl
 variant_is s v (named_of fs) = refl
 
-variant_nodes_cmp : (s t v w : Text) (m n : Node) → node_cmp (variant_node s v m) (variant_node t w n) ≡ ordering_then (ordering_then (text_cmp s t) (text_cmp v w)) (node_cmp m n)
+variant_nodes_cmp : (s t v w : Text) (m n : Node)
+    → node_cmp (variant_node s v m) (variant_node t w n) ≡ ordering_then (ordering_then (text_cmp s t) (text_cmp v w)) (node_cmp m n)
 variant_nodes_cmp s t v w m n =
     (λ i. ordering_then (unsigneds_cmp s t i) (ordering_then (strings_cmp v w i) (then_Equal (node_cmp m n) i)))
     ∙ then_assoc (text_cmp s t) (text_cmp v w) (node_cmp m n)
 
-pub variants_cmp : (s t v w : Text) (c d : Content) → data_cmp (variant_of s v c) (variant_of t w d) ≡ ordering_then (ordering_then (text_cmp s t) (text_cmp v w)) (data_cmp (content_data c) (content_data d))
+pub variants_cmp : (s t v w : Text) (c d : Content)
+    → data_cmp (variant_of s v c) (variant_of t w d) ≡ ordering_then (ordering_then (text_cmp s t) (text_cmp v w)) (data_cmp (content_data c) (content_data d))
 variants_cmp s t v w c d =
     (λ i. node_cmp (variant_is s v c i) (variant_is t w d i))
     ∙ variant_nodes_cmp s t v w (node_of (content_data c)) (node_of (content_data d))

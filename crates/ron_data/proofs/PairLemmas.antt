@@ -1,5 +1,6 @@
 -- Pairs of data that are put in under their keys are the pairs of the format's map: for `fold_pairs`.
-use Rattle.std.proofs.Common.{◌≡◌, ℕ, suc, ◌+◌, ◌<◌, ◌≤◌, ◌||◌, Bool, true, false, cond, List, [], ◌∷◌, ◌++◌, map, take, drop, length, get_or, refl, sym, ap, ap₂, subst, ◌∙◌, ◌-◌, arith}
+use Rattle.std.proofs.Common.{◌≡◌, ℕ, suc, ◌+◌, ◌<◌, ◌≤◌, ◌||◌, Bool, true, false, cond, List, [], ◌∷◌, ◌++◌, map, take, drop, length, get_or, refl, sym, ap}
+use Rattle.std.proofs.Common.{ap₂, subst, ◌∙◌, ◌-◌, arith}
 use Rattle.std.specs.List.{All, Contains, list_any}
 use Rattle.std.specs.Map.{keys_of, values_of}
 use Rattle.std.proofs.lemmas.List.{append-nil, get_or_default, get_or-map, length-map, map-append, take_more, drop_more, take_all, drop_all}
@@ -26,7 +27,8 @@ same_by_order d e =
     both_ways _ _ (λ t. ap (λ x. equal_data x e) (data_cmp_same d e ((Equal-is (data_cmp d e)).0 t)) ∙ data_self e)
     (λ t. ap (λ x. is_eq (data_cmp x e)) (data_is d e t) ∙ only_Equal (data_cmp e e) (data_cmp_total.antisymm e e))
 
-put_entry : (es : List (Key × Data)) (p : Key × Data) → pairs_view (map without_key (with_entry key_cmp es p)) ≡ put (key_of p.0) (data_view p.1) (pairs_view (map without_key es))
+put_entry : (es : List (Key × Data)) (p : Key × Data)
+    → pairs_view (map without_key (with_entry key_cmp es p)) ≡ put (key_of p.0) (data_view p.1) (pairs_view (map without_key es))
 put_entry [] p = refl
 put_entry (e ∷ es) p =
     ap (λ b. pairs_view (map without_key (cond b ((e.0, p.1) ∷ es) (e ∷ with_entry key_cmp es p)))) (same_by_order (key_of p.0) (key_of e.0))
@@ -34,16 +36,19 @@ put_entry (e ∷ es) p =
   where
     go : (b : Bool) → pairs_view (map without_key (with_entry key_cmp es p)) ≡ put (key_of p.0) (data_view p.1) (pairs_view (map without_key es))
         → pairs_view (map without_key (cond b ((e.0, p.1) ∷ es) (e ∷ with_entry key_cmp es p)))
-        ≡ cond b (plain.pair_and (key_of e.0) (data_view p.1) (pairs_view (map without_key es))) (plain.pair_and (key_of e.0) (data_view e.1) (put (key_of p.0) (data_view p.1) (pairs_view (map without_key es))))
+        ≡ cond b (plain.pair_and (key_of e.0) (data_view p.1) (pairs_view (map without_key es)))
+        (plain.pair_and (key_of e.0) (data_view e.1) (put (key_of p.0) (data_view p.1) (pairs_view (map without_key es))))
     go true h = refl
     go false h = ap (plain.pair_and (key_of e.0) (data_view e.1)) h
 
-pub put_entries : (es : List (Key × Data)) (ps : List (Data × Data)) → pairs_view (map without_key (with_entries key_cmp es (map with_key ps))) ≡ put_all (pairs_view (map without_key es)) (map pair_view ps)
+pub put_entries : (es : List (Key × Data)) (ps : List (Data × Data))
+    → pairs_view (map without_key (with_entries key_cmp es (map with_key ps))) ≡ put_all (pairs_view (map without_key es)) (map pair_view ps)
 put_entries es [] = refl
 put_entries es (p ∷ ps) = put_entries (with_entry key_cmp es (with_key p)) ps ∙ ap (λ v. put_all v (map pair_view ps)) (put_entry es (with_key p))
 
 -- where none is left to be given its key, all have it
-pub all_keyed : (keyed : List (Key × Data)) (rest ps : List (Data × Data)) → keyed ++ map with_key rest ≡ map with_key ps → length rest ≡ 0 → keyed ≡ map with_key ps
+pub all_keyed : (keyed : List (Key × Data)) (rest ps : List (Data × Data)) → keyed ++ map with_key rest ≡ map with_key ps → length rest ≡ 0
+    → keyed ≡ map with_key ps
 all_keyed keyed [] ps h none = sym (append-nil keyed) ∙ h
 all_keyed keyed (p ∷ rest) ps h none = absurd (omega (arith, none))
 
@@ -54,7 +59,8 @@ abbrev pub is_among : Data → List (Data × Data) → Bool
 is_among k ps = list_any (λ p. is_eq (data_cmp (data_view k) (data_view p.0))) ps
 
 -- a key that is none of theirs belongs behind them
-place_behind : (k : Data) (ps : List (Data × Data)) → is_among k ps ≡ false → place_in key_cmp (record { held = k }) (map with_key ps) ≡ length (map with_key ps)
+place_behind : (k : Data) (ps : List (Data × Data)) → is_among k ps ≡ false
+    → place_in key_cmp (record { held = k }) (map with_key ps) ≡ length (map with_key ps)
 place_behind k [] e = refl
 place_behind k (p ∷ ps) e = go (is_eq (data_cmp (data_view k) (data_view p.0))) (place_behind k ps) e
   where
@@ -67,12 +73,15 @@ place_behind k (p ∷ ps) e = go (is_eq (data_cmp (data_view k) (data_view p.0))
 abbrev pub FirstDiffer : ℕ → List (Data × Data) → Type 0
 FirstDiffer i ps = with_entries key_cmp (map with_key (take i ps)) (map with_key (drop i ps)) ≡ with_entries key_cmp [] (map with_key ps)
 
-pub one_differs : (ps : List (Data × Data)) (i : ℕ) (p : Data × Data) → i < length ps → p ≡ get_or ps i p → is_among p.0 (take i ps) ≡ false → FirstDiffer i ps → FirstDiffer (i + 1) ps
+pub one_differs : (ps : List (Data × Data)) (i : ℕ) (p : Data × Data) → i < length ps → p ≡ get_or ps i p → is_among p.0 (take i ps) ≡ false → FirstDiffer i ps
+    → FirstDiffer (i + 1) ps
 one_differs ps i p lt at none h =
     let front : take (i + 1) ps ≡ take i ps ++ p ∷ [] = take_more ps i p lt ∙ ap (λ q. take i ps ++ q ∷ []) (sym at) in
     let back : p ∷ drop (i + 1) ps ≡ drop i ps = ap (λ q. q ∷ drop (i + 1) ps) at ∙ sym (drop_more ps i p lt) in
-    let one : map with_key (take (i + 1) ps) ≡ with_entry key_cmp (map with_key (take i ps)) (with_key p) = ap (map with_key) front ∙ map-append with_key (take i ps) (p ∷ []) ∙ put_new key_cmp (map with_key (take i ps)) (with_key p) (place_behind p.0 (take i ps) none) in
-    ap (λ es. with_entries key_cmp es (map with_key (drop (i + 1) ps))) one ∙ ap (λ qs. with_entries key_cmp (map with_key (take i ps)) (map with_key qs)) back ∙ h
+    let one : map with_key (take (i + 1) ps) ≡ with_entry key_cmp (map with_key (take i ps)) (with_key p) = ap (map with_key) front
+    ∙ map-append with_key (take i ps) (p ∷ []) ∙ put_new key_cmp (map with_key (take i ps)) (with_key p) (place_behind p.0 (take i ps) none) in
+    ap (λ es. with_entries key_cmp es (map with_key (drop (i + 1) ps))) one ∙ ap (λ qs. with_entries key_cmp (map with_key (take i ps)) (map with_key qs)) back
+    ∙ h
 
 pub all_differ : (ps : List (Data × Data)) (i : ℕ) → length ps ≤ i → FirstDiffer i ps → with_entries key_cmp [] (map with_key ps) ≡ map with_key ps
 all_differ ps i le h = sym h ∙ (λ j. with_entries key_cmp (map with_key (take_all i ps le j)) (map with_key (drop_all i ps le j)))
@@ -97,10 +106,12 @@ pub first_ascends : (ps : List (Data × Data)) → FirstAscend 1 ps
 first_ascends [] = record { differ = refl; behind = λ p k at less. refl }
 first_ascends (q ∷ ps) = record {
   differ = refl;
-  behind = λ p k at less. ap (λ b. b || false) (behind_differs (data_view q.0) (data_view k) (ap (λ (r : Data × Data). data_cmp (data_view r.0) (data_view k)) (sym at) ∙ less));
+  behind = λ p k at less.
+      ap (λ b. b || false) (behind_differs (data_view q.0) (data_view k) (ap (λ (r : Data × Data). data_cmp (data_view r.0) (data_view k)) (sym at) ∙ less));
 }
 
-pub one_ascends : (ps : List (Data × Data)) (i : ℕ) (p q : Data × Data) → i < length ps → p ≡ get_or ps (i - 1) p → q ≡ get_or ps i q → data_cmp (data_view p.0) (data_view q.0) ≡ Less → FirstAscend i ps → FirstAscend (i + 1) ps
+pub one_ascends : (ps : List (Data × Data)) (i : ℕ) (p q : Data × Data) → i < length ps → p ≡ get_or ps (i - 1) p → q ≡ get_or ps i q
+    → data_cmp (data_view p.0) (data_view q.0) ≡ Less → FirstAscend i ps → FirstAscend (i + 1) ps
 one_ascends ps i p q lt before at less h = record {
   differ = one_differs ps i q lt at (h.behind p q.0 before less) h.differ;
   behind = λ r k there above.
@@ -108,7 +119,8 @@ one_ascends ps i p q lt before at less h = record {
       let same : r ≡ q = there ∙ ap (λ j. get_or ps j r) here ∙ get_or_default ps i r q lt ∙ sym at in
       let below : data_cmp (data_view q.0) (data_view k) ≡ Less = ap (λ (s : Data × Data). data_cmp (data_view s.0) (data_view k)) (sym same) ∙ above in
       let others = h.behind p k before (data_cmp_total.trans (data_view p.0) (data_view q.0) (data_view k) less below) in
-      let last : is_eq (data_cmp (data_view k) (data_view (get_or ps i q).0)) ≡ false = ap (λ (s : Data × Data). is_eq (data_cmp (data_view k) (data_view s.0))) (sym at) ∙ behind_differs (data_view q.0) (data_view k) below in
+      let last : is_eq (data_cmp (data_view k) (data_view (get_or ps i q).0)) ≡ false =
+      ap (λ (s : Data × Data). is_eq (data_cmp (data_view k) (data_view s.0))) (sym at) ∙ behind_differs (data_view q.0) (data_view k) below in
       list_any_more (λ s. is_eq (data_cmp (data_view k) (data_view s.0))) ps i q lt ∙ ap₂ (λ a b. a || b) others last;
 }
 
@@ -117,7 +129,8 @@ keys_gone [] = refl
 keys_gone (p ∷ ps) = ap (λ qs. p ∷ qs) (keys_gone ps)
 
 -- so nothing is folded
-not_folded : (ps : List (Data × Data)) → with_entries key_cmp [] (map with_key ps) ≡ map with_key ps → ps ≡ map without_key (with_entries key_cmp [] (map with_key ps))
+not_folded : (ps : List (Data × Data)) → with_entries key_cmp [] (map with_key ps) ≡ map with_key ps
+    → ps ≡ map without_key (with_entries key_cmp [] (map with_key ps))
 not_folded ps differ = sym (keys_gone ps) ∙ ap (map without_key) (sym differ)
 
 -- ---- the parts of the pairs

@@ -1,5 +1,6 @@
 -- Slots as they are kept, those of the first fields by name and the others: for the calls of `Slots`.
-use Rattle.std.proofs.Common.{◌≡◌, ℕ, zero, suc, ◌-◌, ◌<◌, ◌≤◌, true, false, List, [], ◌∷◌, ◌++◌, map, take, drop, length, get_or, string_bytes, String, Global, Option, Some, None, option_map, cond, nat_lt, slice_get, set, refl, sym, ap, ap₂, subst, ◌∙◌, arith}
+use Rattle.std.proofs.Common.{◌≡◌, ℕ, zero, suc, ◌-◌, ◌<◌, ◌≤◌, true, false, List, [], ◌∷◌, ◌++◌, map, take, drop, length, get_or, string_bytes, String, Global}
+use Rattle.std.proofs.Common.{Option, Some, None, option_map, cond, nat_lt, slice_get, set, refl, sym, ap, ap₂, subst, ◌∙◌, arith}
 use Rattle.std.specs.List.{position, position_or_len}
 use Rattle.std.specs.Str.{chars}
 use Rattle.std.specs.Option.{is_some}
@@ -40,12 +41,14 @@ one_empty zero slots = refl
 one_empty (suc n) [] = refl
 one_empty (suc n) (slot ∷ slots) = ap (λ more. slot ∷ more) (one_empty n slots)
 
-put_last : {A : Type 0} (n : ℕ) (slots : List (Option A)) (a : A) → length slots < n → slots_of n (slots ++ Some a ∷ []) ≡ set (slots_of n slots) (length slots) (Some a)
+put_last : {A : Type 0} (n : ℕ) (slots : List (Option A)) (a : A) → length slots < n
+    → slots_of n (slots ++ Some a ∷ []) ≡ set (slots_of n slots) (length slots) (Some a)
 put_last zero slots a lt = absurd (omega (arith, lt))
 put_last (suc n) [] a lt = refl
 put_last (suc n) (slot ∷ slots) a lt = ap (λ more. slot ∷ more) (put_last n slots a (omega (arith, lt)))
 
-put_within : {A : Type 0} (n : ℕ) (slots : List (Option A)) (i : ℕ) (a : A) → i < n → i < length slots → slots_of n (set slots i (Some a)) ≡ set (slots_of n slots) i (Some a)
+put_within : {A : Type 0} (n : ℕ) (slots : List (Option A)) (i : ℕ) (a : A) → i < n → i < length slots
+    → slots_of n (set slots i (Some a)) ≡ set (slots_of n slots) i (Some a)
 put_within zero slots i a lt less = absurd (omega (arith, lt))
 put_within (suc n) [] i a lt less = absurd (omega (arith, less))
 put_within (suc n) (slot ∷ slots) zero a lt less = refl
@@ -67,7 +70,8 @@ append-assoc [] ys zs = refl
 append-assoc (x ∷ xs) ys zs = ap (λ more. x ∷ more) (append-assoc xs ys zs)
 
 pub adds-one : {A : Type 0} (old new more : List (Option A)) → AddsEmpty old new → more ≡ new ++ None ∷ [] → AddsEmpty old more
-adds-one old new more h e n front = ap (λ slots. slots_of n (front ++ slots)) e ∙ ap (slots_of n) (append-assoc front new (None ∷ [])) ∙ one_empty n (front ++ new) ∙ h n front
+adds-one old new more h e n front =
+    ap (λ slots. slots_of n (front ++ slots)) e ∙ ap (slots_of n) (append-assoc front new (None ∷ [])) ∙ one_empty n (front ++ new) ∙ h n front
 
 -- ---- the fields that came in their turn
 
@@ -79,7 +83,8 @@ named_within fields [] h = omega arith
 named_within [] (m ∷ made) h = absurd h
 named_within (f ∷ fields) (m ∷ made) h = omega (arith, named_within fields made h.1)
 
-pub named_more : (fields : List FieldShape) (made : List (String Global × Data)) (m : String Global × Data) → AreNamed fields made → length made < length fields → IsNameAt fields (length made) (Some m.0) → AreNamed fields (made ++ m ∷ [])
+pub named_more : (fields : List FieldShape) (made : List (String Global × Data)) (m : String Global × Data) → AreNamed fields made → length made < length fields
+    → IsNameAt fields (length made) (Some m.0) → AreNamed fields (made ++ m ∷ [])
 named_more [] made m h lt e = absurd (omega (arith, lt))
 named_more (f ∷ fields) [] m h lt e = (e f, tt)
 named_more (f ∷ fields) (n ∷ made) m h lt e = (h.0, named_more fields made m h.1 (omega (arith, lt)) e)
@@ -90,7 +95,8 @@ same_at [] i d f lt = absurd (omega (arith, lt))
 same_at (g ∷ fields) zero d f lt = refl
 same_at (g ∷ fields) (suc i) d f lt = same_at fields i d f (omega (arith, lt))
 
-pub name_is_at : (fields : List FieldShape) (i : ℕ) (f : FieldShape) (name : String Global) → true ≡ nat_lt i (length fields) → f ≡ get_or fields i f → string_bytes name ≡ string_bytes f.name → IsNameAt fields i (Some name)
+pub name_is_at : (fields : List FieldShape) (i : ℕ) (f : FieldShape) (name : String Global) → true ≡ nat_lt i (length fields) → f ≡ get_or fields i f
+    → string_bytes name ≡ string_bytes f.name → IsNameAt fields i (Some name)
 name_is_at fields i f name lt at e d = e ∙ ap (λ (g : FieldShape). string_bytes g.name) (at ∙ same_at fields i f d (ltb-true i (length fields) (sym lt)))
 
 full_append : (made : List (String Global × Data)) (m : String Global × Data) → full (made ++ m ∷ []) ≡ full made ++ Some m.1 ∷ []
@@ -102,17 +108,20 @@ append_nil [] = refl
 append_nil (x ∷ xs) = ap (λ more. x ∷ more) (append_nil xs)
 
 -- a field without a value is none of those
-pub free_behind : (made : List (String Global × Data)) (others : List (Option Data)) (i : ℕ) → is_filled (slice_get (full made ++ others) i) ≡ false → length made ≤ i
+pub free_behind : (made : List (String Global × Data)) (others : List (Option Data)) (i : ℕ) → is_filled (slice_get (full made ++ others) i) ≡ false
+    → length made ≤ i
 free_behind [] others i e = omega arith
 free_behind (m ∷ made) others zero e = absurd (cc)
 free_behind (m ∷ made) others (suc i) e = omega (arith, free_behind made others i e)
 
-pub filled_before : (made : List (String Global × Data)) (others : List (Option Data)) (i : ℕ) → i < length made → is_filled (slice_get (full made ++ others) i) ≡ true
+pub filled_before : (made : List (String Global × Data)) (others : List (Option Data)) (i : ℕ) → i < length made
+    → is_filled (slice_get (full made ++ others) i) ≡ true
 filled_before [] others i lt = absurd (omega (arith, lt))
 filled_before (m ∷ made) others zero lt = refl
 filled_before (m ∷ made) others (suc i) lt = filled_before made others i (omega (arith, lt))
 
-pub filled_behind : (made : List (String Global × Data)) (others : List (Option Data)) (i : ℕ) → length made ≤ i → slice_get (full made ++ others) i ≡ slice_get others (i - length made)
+pub filled_behind : (made : List (String Global × Data)) (others : List (Option Data)) (i : ℕ) → length made ≤ i
+    → slice_get (full made ++ others) i ≡ slice_get others (i - length made)
 filled_behind [] others i le = let e : i ≡ i - 0 = omega arith in ap (slice_get others) e
 filled_behind (m ∷ made) others zero le = absurd (omega (arith, le))
 filled_behind (m ∷ made) others (suc i) le =
@@ -122,39 +131,50 @@ filled_behind (m ∷ made) others (suc i) le =
 -- ---- one more value
 
 -- of the field whose turn it is
-pub put_in_turn : (n : ℕ) (made more : List (String Global × Data)) (name : String Global) (d : Data) (others others_ : List (Option Data)) → length made < n → others ≡ [] → others_ ≡ [] → more ≡ made ++ (name, d) ∷ []
+pub put_in_turn : (n : ℕ) (made more : List (String Global × Data)) (name : String Global) (d : Data) (others others_ : List (Option Data)) → length made < n
+    → others ≡ [] → others_ ≡ [] → more ≡ made ++ (name, d) ∷ []
     → slots_of n (full more ++ others_) ≡ set (slots_of n (full made ++ others)) (length made) (Some d)
 put_in_turn n made more name d others others_ lt e e_ m =
-    let ends : full more ++ others_ ≡ full made ++ Some d ∷ [] = ap (λ o. full more ++ o) e_ ∙ append_nil (full more) ∙ ap full m ∙ full_append made (name, d) in
+    let ends : full more ++ others_ ≡ full made ++ Some d ∷ [] =
+    ap (λ o. full more ++ o) e_ ∙ append_nil (full more) ∙ ap full m ∙ full_append made (name, d) in
     let starts : full made ++ others ≡ full made = ap (λ o. full made ++ o) e ∙ append_nil (full made) in
     let as_long : length (full made) ≡ length made = length-map made (λ f. Some f.1) in
-    ap (slots_of n) ends ∙ put_last n (full made) d (omega (arith, lt, as_long)) ∙ ap (λ i. set (slots_of n (full made)) i (Some d)) as_long ∙ ap (λ slots. set (slots_of n slots) (length made) (Some d)) (sym starts)
+    ap (slots_of n) ends ∙ put_last n (full made) d (omega (arith, lt, as_long)) ∙ ap (λ i. set (slots_of n (full made)) i (Some d)) as_long
+    ∙ ap (λ slots. set (slots_of n slots) (length made) (Some d)) (sym starts)
 
 -- of another one, in a slot that is there by now
-pub put_other : (n : ℕ) (made : List (String Global × Data)) (others there more : List (Option Data)) (i : ℕ) (d : Data) → i < n → length made ≤ i → AddsEmpty others there → i - length made < length there → more ≡ set there (i - length made) (Some d)
+pub put_other : (n : ℕ) (made : List (String Global × Data)) (others there more : List (Option Data)) (i : ℕ) (d : Data) → i < n → length made ≤ i
+    → AddsEmpty others there → i - length made < length there → more ≡ set there (i - length made) (Some d)
     → slots_of n (full made ++ more) ≡ set (slots_of n (full made ++ others)) i (Some d)
 put_other n made others there more i d lt le adds less m =
     let as_long : length (full made) ≡ length made = length-map made (λ f. Some f.1) in
     let within : i < length (full made ++ there) = omega (arith, length-append (full made) there, as_long, le, less) in
-    ap (λ slots. slots_of n (full made ++ slots)) m ∙ ap (slots_of n) (sym (set-append_right (full made) there (length made) i (Some d) as_long le)) ∙ put_within n (full made ++ there) i d lt within ∙ ap (λ slots. set slots i (Some d)) (adds n (full made))
+    ap (λ slots. slots_of n (full made ++ slots)) m ∙ ap (slots_of n) (sym (set-append_right (full made) there (length made) i (Some d) as_long le))
+    ∙ put_within n (full made ++ there) i d lt within ∙ ap (λ slots. set slots i (Some d)) (adds n (full made))
 
 -- ---- the field whose turn it is
 
-apart_at : (f : Field) (fields : List FieldShape) (i : ℕ) (d : FieldShape) → Each (λ g. (n : Text) → is_called n g ≡ true → is_called n f ≡ false) (map field_view fields) → i < length fields → (n : Text) → is_called n (field_view (get_or fields i d)) ≡ true → is_called n f ≡ false
+apart_at : (f : Field) (fields : List FieldShape) (i : ℕ) (d : FieldShape) → Each (λ g. (n : Text) → is_called n g ≡ true → is_called n f ≡ false)
+    (map field_view fields) → i < length fields → (n : Text) → is_called n (field_view (get_or fields i d)) ≡ true → is_called n f ≡ false
 apart_at f [] i d o lt = absurd (omega (arith, lt))
 apart_at f (g ∷ fields) zero d o lt = o.0
 apart_at f (g ∷ fields) (suc i) d o lt = apart_at f fields i d o.1 (omega (arith, lt))
 
 module _ (name : Text) (d : FieldShape) where
-  none_before : (fields : List FieldShape) (i k : ℕ) → names_differ (map field_view fields) ≡ true → i < length fields → is_called name (field_view (get_or fields i d)) ≡ true → k < i → is_called name (field_view (get_or fields k d)) ≡ false
+  none_before : (fields : List FieldShape) (i k : ℕ) → names_differ (map field_view fields) ≡ true → i < length fields
+      → is_called name (field_view (get_or fields i d)) ≡ true → k < i → is_called name (field_view (get_or fields k d)) ≡ false
   none_before [] i k h lt e less = absurd (omega (arith, lt))
   none_before (f ∷ fields) zero k h lt e less = absurd (omega (arith, less))
-  none_before (f ∷ fields) (suc i) zero h lt e less = apart_at (field_view f) fields i d (called_apart (field_view f) (map field_view fields) h) (omega (arith, lt)) name e
-  none_before (f ∷ fields) (suc i) (suc k) h lt e less = none_before fields i k (names_parts (field_view f) (map field_view fields) h).1 (omega (arith, lt)) e (omega (arith, less))
+  none_before (f ∷ fields) (suc i) zero h lt e less =
+      apart_at (field_view f) fields i d (called_apart (field_view f) (map field_view fields) h) (omega (arith, lt)) name e
+  none_before (f ∷ fields) (suc i) (suc k) h lt e less =
+      none_before fields i k (names_parts (field_view f) (map field_view fields) h).1 (omega (arith, lt)) e (omega (arith, less))
 
-  pub turn_found : (fields : List FieldShape) (i : ℕ) → names_differ (map field_view fields) ≡ true → i < length fields → is_called name (field_view (get_or fields i d)) ≡ true → Some i ≡ position (λ f. is_called name (field_view f)) fields
+  pub turn_found : (fields : List FieldShape) (i : ℕ) → names_differ (map field_view fields) ≡ true → i < length fields
+      → is_called name (field_view (get_or fields i d)) ≡ true → Some i ≡ position (λ f. is_called name (field_view f)) fields
   turn_found fields i h lt e =
-      let is : position_or_len (λ f. is_called name (field_view f)) fields ≡ i = position_or_len_is (λ f. is_called name (field_view f)) fields i d (omega (arith, lt)) (λ k less. none_before fields i k h lt e less) (λ _. e) in
+      let is : position_or_len (λ f. is_called name (field_view f)) fields ≡ i =
+      position_or_len_is (λ f. is_called name (field_view f)) fields i d (omega (arith, lt)) (λ k less. none_before fields i k h lt e less) (λ _. e) in
       ap (λ b. cond b (Some i) None) (sym (lt-ltb i (length fields) lt)) ∙ ap (λ k. cond (nat_lt k (length fields)) (Some k) None) (sym is)
 
 -- ---- no values yet
@@ -170,18 +190,23 @@ none_else [] e = refl
 none_else (x ∷ xs) e = absurd (omega (arith, e))
 
 -- likewise of the slice that code looks at
-pub turn_at : (name : Text) (fields slice : List FieldShape) (i : ℕ) (f : FieldShape) → slice ≡ fields → true ≡ nat_lt i (length slice) → f ≡ get_or slice i f → is_called name (field_view f) ≡ true → names_differ (map field_view fields) ≡ true → Some i ≡ position (λ f. is_called name (field_view f)) fields
+pub turn_at : (name : Text) (fields slice : List FieldShape) (i : ℕ) (f : FieldShape) → slice ≡ fields → true ≡ nat_lt i (length slice) → f ≡ get_or slice i f
+    → is_called name (field_view f) ≡ true → names_differ (map field_view fields) ≡ true → Some i ≡ position (λ f. is_called name (field_view f)) fields
 turn_at name fields slice i f same lt at e h =
-    let here : slice_get fields i ≡ Some f = ap (λ fs. slice_get fs i) (sym same) ∙ slice_get_read slice (length slice) i f refl (ltb-true i (length slice) (sym lt)) at in
-    turn_found name f fields i h (slice_get_within fields i f here) (ap (λ (g : FieldShape). is_called name (field_view g)) (get_or_from_slice_get fields i f f here) ∙ e)
+    let here : slice_get fields i ≡ Some f =
+    ap (λ fs. slice_get fs i) (sym same) ∙ slice_get_read slice (length slice) i f refl (ltb-true i (length slice) (sym lt)) at in
+    turn_found name f fields i h (slice_get_within fields i f here)
+    (ap (λ (g : FieldShape). is_called name (field_view g)) (get_or_from_slice_get fields i f f here) ∙ e)
 
 -- ---- the field whose turn it is
 
 pub own_name : (f : FieldShape) (name : List ℕ) → name ≡ string_bytes f.name → is_called (chars name) (field_view f) ≡ true
 own_name f name e = rw (e, same_self (chars (string_bytes f.name))) refl
 
-pub none_yet : (made : List (String Global × Data)) (others : List (Option Data)) (i : ℕ) → others ≡ [] → i ≡ length made → is_filled (slice_get (full made ++ others) i) ≡ false
-none_yet made others i e at = ap is_filled (filled_behind made others i (omega (arith, at)) ∙ ap (λ o. slice_get o (i - length made)) e ∙ slice_get_past [] (i - length made) (omega arith))
+pub none_yet : (made : List (String Global × Data)) (others : List (Option Data)) (i : ℕ) → others ≡ [] → i ≡ length made
+    → is_filled (slice_get (full made ++ others) i) ≡ false
+none_yet made others i e at = ap is_filled
+    (filled_behind made others i (omega (arith, at)) ∙ ap (λ o. slice_get o (i - length made)) e ∙ slice_get_past [] (i - length made) (omega arith))
 
 -- what a slice from an index on holds
 pub all_behind : {A : Type 0} (n : ℕ) (xs : List A) → take (length xs - n) (drop n xs) ≡ drop n xs

@@ -3,7 +3,8 @@
 -- Slots for fields need distinct names. With two equal names the second slot would stay empty, and the field whose
 -- turn it is would not be the first of its name. So what reads fields, of a struct or of a variant, requires distinct
 -- names, and a `Schema` has them.
-use Rattle.std.specs.Prelude.{◌≡◌, ℕ, zero, suc, ◌<◌, ◌≤◌, Bool, true, false, List, [], ◌∷◌, ◌++◌, map, length, Option, Some, None, option_map, slice_get, get_or, find, String, Vec, string_bytes}
+use Rattle.std.specs.Prelude.{◌≡◌, ℕ, zero, suc, ◌<◌, ◌≤◌, Bool, true, false, List, [], ◌∷◌, ◌++◌, map, length, Option, Some, None, option_map, slice_get}
+use Rattle.std.specs.Prelude.{get_or, find, String, Vec, string_bytes}
 use Rattle.std.specs.declared.alloc.Global.{Global}
 use Rattle.ron_spec_grammar.specs.Data as plain
 use Rattle.ron_spec_grammar.specs.Data.{Fields, no_fields}
@@ -90,14 +91,16 @@ AreSlotsFor fields slots = AreNamed fields slots.in_turn.items × IsNameAt field
 abbrev pub IsFree : List FieldShape → Slots → ℕ → Type 0
 IsFree fields slots index = (index < length fields) × (is_filled (slice_get (so_far slots) index) ≡ false)
 
--- The field at this index is the one whose turn it is: all that came did so in the list's order, and it is behind these. There is none where others came, or all.
+-- The field at this index is the one whose turn it is: all that came did so in the list's order, and it is behind these. There is none where others came, or
+-- all.
 abbrev pub IsAwaited : List FieldShape → Slots → Option ℕ → Type 0
 IsAwaited fields slots None = slots.others.items ≡ [] → length fields ≤ length slots.in_turn.items
 IsAwaited fields slots (Some index) = (slots.others.items ≡ []) × (index ≡ length slots.in_turn.items) × IsFree fields slots index
 
 -- the error of a name that no field has
 abbrev pub IsUnknownField : Error → Type 0
-IsUnknownField e = (expected : Vec (String Global) Global) × (found : String Global) × (outer : Option (String Global)) × (e ≡ NoSuchStructField expected found outer)
+IsUnknownField e =
+    (expected : Vec (String Global) Global) × (found : String Global) × (outer : Option (String Global)) × (e ≡ NoSuchStructField expected found outer)
 
 -- A field is missing, and P holds; or there is no memory.
 abbrev pub MissesField : Type 0 → Error → Type 0

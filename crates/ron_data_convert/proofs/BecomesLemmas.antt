@@ -30,7 +30,8 @@ pub unknown_or : (m : Misfit) (P : Type 0) (e : Error) → IsUnknownField e → 
 unknown_or m P e h is p = subst (IsMemoryOr m P) (sym h.3) (sym is, p)
 
 -- where there is no answer, a refusal is right
-pub refuses : {A B : Type 0} (view : A → B) (answer : Option B) (m n : Misfit) (result : Result A Error) → answer ≡ None → m ≡ n → Refuses n result → Becomes view answer m result
+pub refuses : {A B : Type 0} (view : A → B) (answer : Option B) (m n : Misfit) (result : Result A Error) → answer ≡ None → m ≡ n → Refuses n result
+    → Becomes view answer m result
 refuses view answer m n (Ok a) h is r = absurd r
 refuses view answer m n (Err e) h is r = memory_or_more e (λ _. sym is) (λ _. h) r
 
@@ -50,14 +51,17 @@ module _ {A Y Z : Type 0} (view : A → Y) (cons : Y → Z → Z) where
   before_more [] a z = refl
   before_more (x ∷ done) a z = ap (cons (view x)) (before_more done a z)
 
-  more_of : (done : List A) (a : A) (next : Option Z) → option_map (before done) (with_both cons (Some (view a)) next) ≡ option_map (before (done ++ a ∷ [])) next
+  more_of : (done : List A) (a : A) (next : Option Z)
+      → option_map (before done) (with_both cons (Some (view a)) next) ≡ option_map (before (done ++ a ∷ [])) next
   more_of done a None = refl
   more_of done a (Some z) = ap Some (sym (before_more done a z))
 
-  pub gone_more : (whole : Option Z) (done : List A) (rest next : Option Z) (o : Option Y) (a : A) → Gone whole done rest → rest ≡ with_both cons o next → o ≡ Some (view a) → Gone whole (done ++ a ∷ []) next
+  pub gone_more : (whole : Option Z) (done : List A) (rest next : Option Z) (o : Option Y) (a : A) → Gone whole done rest → rest ≡ with_both cons o next
+      → o ≡ Some (view a) → Gone whole (done ++ a ∷ []) next
   gone_more whole done rest next o a h r e = h ∙ ap (option_map (before done)) (r ∙ ap (λ o. with_both cons o next) e) ∙ more_of done a next
 
-  pub gone_none : (whole : Option Z) (done : List A) (rest : Option Z) (o : Option Y) (next : Option Z) → Gone whole done rest → rest ≡ with_both cons o next → o ≡ None → whole ≡ None
+  pub gone_none : (whole : Option Z) (done : List A) (rest : Option Z) (o : Option Y) (next : Option Z) → Gone whole done rest → rest ≡ with_both cons o next
+      → o ≡ None → whole ≡ None
   gone_none whole done rest o next h r e = h ∙ ap (option_map (before done)) (r ∙ ap (λ o. with_both cons o next) e)
 
   pub gone_all : (whole : Option Z) (done : List A) (rest : Option Z) (end : Z) → Gone whole done rest → rest ≡ Some end → whole ≡ Some (before done end)
@@ -73,5 +77,6 @@ before_datas view (a ∷ done) = ap (plain.data_and (view a)) (before_datas view
 
 -- ---- answers that are equal
 
-pub becomes_eq : {A B : Type 0} (view : A → B) (one other : Option B) (m n : Misfit) (result : Result A Error) → one ≡ other → m ≡ n → Becomes view other n result → Becomes view one m result
+pub becomes_eq : {A B : Type 0} (view : A → B) (one other : Option B) (m n : Misfit) (result : Result A Error) → one ≡ other → m ≡ n
+    → Becomes view other n result → Becomes view one m result
 becomes_eq view one other m n result e f h = subst (λ o. Becomes view o m result) (sym e) (subst (λ n. Becomes view other n result) (sym f) h)

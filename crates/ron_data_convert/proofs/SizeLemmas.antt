@@ -26,5 +26,6 @@ pub item_within : (left rest : List Value) (v : Value) → left ≡ v ∷ rest �
 item_within left rest v e = sym (ap (λ vs. items_size (items_tree vs)) e)
 
 -- likewise a key with its value
-pub entry_within : (left rest : List (Value × Value)) (e : Value × Value) → left ≡ e ∷ rest → size (tree_of e.0) + size (tree_of e.1) + pairs_size (pairs_tree rest) ≡ pairs_size (pairs_tree left)
+pub entry_within : (left rest : List (Value × Value)) (e : Value × Value) → left ≡ e ∷ rest
+    → size (tree_of e.0) + size (tree_of e.1) + pairs_size (pairs_tree rest) ≡ pairs_size (pairs_tree left)
 entry_within left rest e at = sym (ap (λ es. pairs_size (pairs_tree es)) at)

@@ -5,7 +5,8 @@ use Rattle.ron_spec_grammar.specs.Schema as plain
 use Rattle.ron_spec_grammar.specs.Data as datum
 use Rattle.ron_spec_grammar.specs.Values.Conversion.{into}
 use Rattle.ron_base.specs.declared.error.Error.{Error}
-use Rattle.ron_base.specs.declared.error.Error.TheVariants.{OutOfMemory, InvalidValueForType, ExpectedDifferentLength, NoSuchStructField, MissingStructField, DuplicateStructField, ExpectedRawValue}
+use Rattle.ron_base.specs.declared.error.Error.TheVariants.{OutOfMemory, InvalidValueForType, ExpectedDifferentLength, NoSuchStructField, MissingStructField}
+use Rattle.ron_base.specs.declared.error.Error.TheVariants.{DuplicateStructField, ExpectedRawValue}
 use Rattle.ron_value.specs.declared.value.Value.{Value}
 use Rattle.ron_value.specs.Tree.{Tree, text, bytes, Items, Pairs, items_from, pairs_from}
 use Rattle.ron_value.specs.View.{tree_of, pair_tree}
@@ -99,7 +100,8 @@ IsOwn (Bytes bs) = is_byte_slice bs ≡ false
 IsOwn (Raw r) = is_borrowed r ≡ false
 IsOwn _ = Unit {0}
 
--- What is answered is the data that a value becomes by a schema, which borrows no text; or the error is that of the value's first misfit; or there is no memory.
+-- What is answered is the data that a value becomes by a schema, which borrows no text; or the error is that of the value's first misfit; or there is no
+-- memory.
 pub record Converts (schema : List plain.Shape) (root : ℕ) (t : Tree) (result : Result Data Error) : Type 0 where
   pub value : Becomes data_view (into schema root t) (misfit schema root t) result
   pub own : IfOk result IsOwn

@@ -74,13 +74,15 @@ followed_misfit behind here (Some item) = behind item
 
 -- ---- of a value
 
--- The first misfit of a value by the shape at an index, in the order of its items; of a tuple its length comes before them, of a struct what is missing behind them. It speaks of values that become nothing, and of others says nothing.
+-- The first misfit of a value by the shape at an index, in the order of its items; of a tuple its length comes before them, of a struct what is missing behind
+-- them. It speaks of values that become nothing, and of others says nothing.
 abbrev mutual
   pub misfit : List Shape → ℕ → Tree → Misfit
   misfit schema i (tree.mapping ps) = mapping_misfit (λ k v. pairs_misfit schema k v ps) (λ list. fields_misfit schema list [] ps) (slice_get schema i)
   misfit schema i (tree.some t) = some_misfit (λ j. misfit schema j t) (slice_get schema i)
   misfit schema i (tree.text bs) = text_misfit (slice_get schema i)
-  misfit schema i (tree.sequence ts) = sequence_misfit (λ j. all_misfit schema j ts) (λ js. cond (as_many js ts) (in_turn_misfit schema js ts) length_differs) (λ j. only_misfit schema j ts) (slice_get schema i)
+  misfit schema i (tree.sequence ts) = sequence_misfit (λ j. all_misfit schema j ts) (λ js. cond (as_many js ts) (in_turn_misfit schema js ts) length_differs)
+      (λ j. only_misfit schema j ts) (slice_get schema i)
   misfit schema i _ = kind_differs
 
   -- of items by one shape
@@ -101,13 +103,15 @@ abbrev mutual
   -- of each key and its value
   pub pairs_misfit : List Shape → ℕ → ℕ → tree.Pairs → Misfit
   pairs_misfit schema k v tree.no_pairs = kind_differs
-  pairs_misfit schema k v (tree.pair_and key t ps) = first_misfit (into schema k key) (misfit schema k key) (first_misfit (into schema v t) (misfit schema v t) (pairs_misfit schema k v ps))
+  pairs_misfit schema k v (tree.pair_and key t ps) =
+      first_misfit (into schema k key) (misfit schema k key) (first_misfit (into schema v t) (misfit schema v t) (pairs_misfit schema k v ps))
 
   -- of fields, behind these items
   pub fields_misfit : List Shape → FieldList → List Item → tree.Pairs → Misfit
   fields_misfit schema list seen tree.no_pairs = lacks_field
   fields_misfit schema list seen (tree.pair_and key t ps) =
-      followed_misfit (λ item. fields_misfit schema list (item ∷ seen) ps) (field_misfit (key_misfit list key) (λ j. misfit schema j t) (field_named list seen key)) (option_and_then (item_as (λ j. into schema j t)) (field_named list seen key))
+      followed_misfit (λ item. fields_misfit schema list (item ∷ seen) ps) (field_misfit (key_misfit list key) (λ j. misfit schema j t)
+      (field_named list seen key)) (option_and_then (item_as (λ j. into schema j t)) (field_named list seen key))
 
 -- of items by shapes, which may be more or fewer
 abbrev pub each_misfit : List Shape → List ℕ → tree.Items → Misfit

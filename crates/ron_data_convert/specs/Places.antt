@@ -34,12 +34,14 @@ IsNameOf fields index name = (index < length fields) × ((f : FieldShape) → te
 -- of any list of fields, whose places these were: they still are, and hold this data at this index besides
 abbrev pub PutsAt : ℕ → String Global → Data → List Bool → List (String Global × Data) → List Bool → List (String Global × Data) → Type 0
 PutsAt index name d filled made filled_ made_ =
-    (fields : List FieldShape) → IsNameOf fields index name → ArePlaces fields filled made → ArePlaces fields filled_ made_ × (slots_at fields filled_ made_ ≡ set (slots_at fields filled made) index (Some d))
+    (fields : List FieldShape) → IsNameOf fields index name → ArePlaces fields filled made
+    → ArePlaces fields filled_ made_ × (slots_at fields filled_ made_ ≡ set (slots_at fields filled made) index (Some d))
 
 -- a field is put in at this index, behind others that the list is lengthened by up to it
 abbrev pub IsPutAt : ℕ → String Global × Data → List (String Global × Data) → List (String Global × Data) → Type 0
 IsPutAt index field made made_ =
-    (more : List (String Global × Data)) × (index < length (made ++ more)) × ((n : ℕ) → length made ≤ n → index < n → length (made ++ more) ≤ n) × (made_ ≡ set (made ++ more) index field)
+    (more : List (String Global × Data)) × (index < length (made ++ more)) × ((n : ℕ) → length made ≤ n → index < n → length (made ++ more) ≤ n)
+    × (made_ ≡ set (made ++ more) index field)
 
 -- a slot of these is filled where its flag says so
 abbrev pub AreFlagsOf : ℕ → List Bool → List (Option Data) → Type 0

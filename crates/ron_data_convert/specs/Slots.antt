@@ -24,24 +24,30 @@ use Rattle.ron_data_convert.specs.Places.{slots_at, AreFlagsOf}
 abbrev pub field_views : List FieldShape → List Field
 field_views fields = map field_view fields
 
--- behind these items, the last of them first, a key names the field at this index, if it is a new one; or, with no index, none that the schema knows, and is skipped
+-- behind these items, the last of them first, a key names the field at this index, if it is a new one; or, with no index, none that the schema knows, and is
+-- skipped
 abbrev pub Names : FieldList → List Item → Tree → Option ℕ → Type 0
 Names list seen key (Some index) = field_named list seen key ≡ option_map known (slice_get list.fields index)
 Names list seen key None = (name : Text) × (field_named list seen key ≡ Some (unknown name))
 
--- behind the items that the slots hold, seen from the last one: the field that a key names, if it is a new one, none where the key is skipped; or it may not stand here
+-- behind the items that the slots hold, seen from the last one: the field that a key names, if it is a new one, none where the key is skipped; or it may not
+-- stand here
 abbrev pub FindsField : FieldList → List (Option plain.Data) → Tree → Result (Option ℕ) Error → Type 0
 FindsField list slots key result =
-    (seen : List Item) → AreSlotsOf slots list.fields (all_items seen []) → MatchResult result (Names list seen key) (IsMemoryOr (key_misfit list key) (field_named list seen key ≡ None))
+    (seen : List Item) → AreSlotsOf slots list.fields (all_items seen [])
+    → MatchResult result (Names list seen key) (IsMemoryOr (key_misfit list key) (field_named list seen key ≡ None))
 
 -- likewise of flags that say which slots are filled, with the field's name
 abbrev pub FindsPlace : FieldList → List Bool → Tree → Result (Option (ℕ × String Global)) Error → Type 0
 FindsPlace list flags key result =
-    (seen : List Item) (slots : List (Option Data)) → AreFlagsOf (length list.fields) flags slots → AreSlotsOf (slots_view slots) list.fields (all_items seen []) → MatchResult result (λ found. Names list seen key (option_map (λ f. f.0) found)) (IsMemoryOr (key_misfit list key) (field_named list seen key ≡ None))
+    (seen : List Item) (slots : List (Option Data)) → AreFlagsOf (length list.fields) flags slots
+    → AreSlotsOf (slots_view slots) list.fields (all_items seen [])
+    → MatchResult result (λ found. Names list seen key (option_map (λ f. f.0) found)) (IsMemoryOr (key_misfit list key) (field_named list seen key ≡ None))
 
 -- what stands in the slots are the items that the pairs become, or they become none, and the error is that of this misfit
 abbrev pub FillsSlots : FieldList → (Slots → List (Option Data)) → Option (List Item) → Misfit → Result Slots Error → Type 0
-FillsSlots list slots answer m result = MatchResult result (λ found. (items : List Item) × (answer ≡ Some items) × AreSlotsOf (slots_view (slots found)) list.fields items) (IsMemoryOr m (answer ≡ None))
+FillsSlots list slots answer m result = MatchResult result
+    (λ found. (items : List Item) × (answer ≡ Some items) × AreSlotsOf (slots_view (slots found)) list.fields items) (IsMemoryOr m (answer ≡ None))
 
 -- the fields in the list's order, from their places, unless one is missing that may not be
 abbrev pub fields_at : List FieldShape → List Bool → List (String Global × Data) → Option plain.Fields
@@ -49,4 +55,5 @@ fields_at fields flags made = filled (map field_view fields) (slots_view (slots_
 
 -- pairs become the fields of a struct, in the list's order, or the error is that of their first misfit
 abbrev pub BecomesFields : List Shape → FieldList → Pairs → Result (Vec (String Global × Data) Global) Error → Type 0
-BecomesFields schema list pairs result = Becomes (λ all. fields_view all.items) (option_and_then (arranged list.fields) (fields_into schema list [] pairs)) (fields_misfit schema list [] pairs) result
+BecomesFields schema list pairs result = Becomes (λ all. fields_view all.items) (option_and_then (arranged list.fields) (fields_into schema list [] pairs))
+    (fields_misfit schema list [] pairs) result

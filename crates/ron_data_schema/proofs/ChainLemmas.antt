@@ -1,10 +1,12 @@
 -- Chains of options and newtypes, how long they are and which end: for the ranks that a schema notes.
-use Rattle.std.proofs.Common.{◌≡◌, ◌≢◌, ℕ, zero, suc, ◌+◌, ◌-◌, ◌≤◌, ◌<◌, eqb, Bool, true, false, nat_lt, List, [], ◌∷◌, length, Option, Some, None, slice_get, slice_index, slice_set, max, refl, sym, ap, ◌∙◌, add-one, get_or-set_other, get_or-set_same, arith}
+use Rattle.std.proofs.Common.{◌≡◌, ◌≢◌, ℕ, zero, suc, ◌+◌, ◌-◌, ◌≤◌, ◌<◌, eqb, Bool, true, false, nat_lt, List, [], ◌∷◌, length, Option, Some, None, slice_get}
+use Rattle.std.proofs.Common.{slice_index, slice_set, max, refl, sym, ap, ◌∙◌, add-one, get_or-set_other, get_or-set_same, arith}
 use Rattle.std.specs.Option.{option_and_then}
 use Rattle.std.specs.List.{list_all}
 use Rattle.std.proofs.lemmas.Option.{slice_get_within}
 use Rattle.std.proofs.lemmas.Bool.{eqb-true, eqb-false}
-use Rattle.ron_spec_grammar.specs.Schema.{Shape, bool, int, char, str, bytes, unit, optional, unit_struct, seq, tuple, tuple_struct, map, newtype, struct, enum, any_value, any_raw, holds_below, content_of, content_at, ends_within, has_no_cycle}
+use Rattle.ron_spec_grammar.specs.Schema.{Shape, bool, int, char, str, bytes, unit, optional, unit_struct, seq, tuple, tuple_struct, map, newtype, struct, enum}
+use Rattle.ron_spec_grammar.specs.Schema.{any_value, any_raw, holds_below, content_of, content_at, ends_within, has_no_cycle}
 use Rattle.ron_spec_grammar.specs.Room.{chain_from, rank, longest_of}
 use Rattle.ron_spec_grammar.proofs.Finding.{all_get}
 use Rattle.ron_spec_grammar.proofs.Room.{rank_falls}
@@ -81,7 +83,8 @@ module _ (table : List Shape) where
       ap (λ k. ends_within table k (content_at table i)) (omega arith) ∙ (g.ends 0 ∙ ap (ends_within table 0) e)
 
   -- behind so many members it has just so many more
-  pub ends_known : (i members at known : ℕ) → is_of_length table known (content_at table at) ≡ true → GoesOn i members at → is_of_length table (members + known) (content_at table i) ≡ true
+  pub ends_known : (i members at known : ℕ) → is_of_length table known (content_at table at) ≡ true → GoesOn i members at
+      → is_of_length table (members + known) (content_at table i) ≡ true
   ends_known i members at known e g = g.length known ∙ e
 
   -- ---- all chains
@@ -90,17 +93,20 @@ module _ (table : List Shape) where
   pub has_cycle : (i : ℕ) → ends_within table (length table) (content_at table i) ≡ false → has_no_cycle table ≡ false
   has_cycle i e = here (slice_get table i) refl
     where
-      other : (s : Shape) → slice_get table i ≡ Some s → ends_within table (length table) (content_of s) ≡ false → (b : Bool) → has_no_cycle table ≡ b → b ≡ false
+      other : (s : Shape) → slice_get table i ≡ Some s → ends_within table (length table) (content_of s) ≡ false → (b : Bool) → has_no_cycle table ≡ b
+          → b ≡ false
       other s at k false h = refl
       other s at k true h = absurd (let q = all_get (λ s. ends_within table (length table) (content_of s)) table i s h at in cc)
 
       here : (o : Option Shape) → slice_get table i ≡ o → has_no_cycle table ≡ false
-      here None at = absurd (let q : ends_within table (length table) None ≡ false = ap (λ o. ends_within table (length table) (option_and_then content_of o)) (sym at) ∙ e in cc)
+      here None at = absurd
+          (let q : ends_within table (length table) None ≡ false = ap (λ o. ends_within table (length table) (option_and_then content_of o)) (sym at) ∙ e in cc)
       here (Some s) at = other s at (ap (λ o. ends_within table (length table) (option_and_then content_of o)) (sym at) ∙ e) (has_no_cycle table) refl
 
   -- where each chain ends within the table's length, there is none
   pub no_cycle : ((i : ℕ) → i < length table → ends_within table (length table) (content_at table i) ≡ true) → has_no_cycle table ≡ true
-  no_cycle h = all_from (λ s. ends_within table (length table) (content_of s)) table (λ i s at. sym (ap (λ o. ends_within table (length table) (option_and_then content_of o)) at) ∙ h i (slice_get_within table i s at))
+  no_cycle h = all_from (λ s. ends_within table (length table) (content_of s)) table
+      (λ i s at. sym (ap (λ o. ends_within table (length table) (option_and_then content_of o)) at) ∙ h i (slice_get_within table i s at))
 
   pub rank_is : (i r : ℕ) → is_of_length table r (content_at table i) ≡ true → r ≤ length table → rank table i ≡ r
   unfolding rank
@@ -126,14 +132,17 @@ module _ (table : List Shape) where
 
   -- ---- ranks that are noted on the way
 
-  pub exact_behind : (left at j : ℕ) → content_at table at ≡ Some j → is_of_length table left (content_at table at) ≡ true → is_of_length table (left - 1) (content_at table j) ≡ true
+  pub exact_behind : (left at j : ℕ) → content_at table at ≡ Some j → is_of_length table left (content_at table at) ≡ true
+      → is_of_length table (left - 1) (content_at table j) ≡ true
   exact_behind zero at j e h = absurd (let q : is_of_length table 0 (Some j) ≡ true = ap (is_of_length table 0) (sym e) ∙ h in cc)
   exact_behind (suc n) at j e h = ap (λ k. is_of_length table k (content_at table j)) (omega arith) ∙ (ap (is_of_length table (suc n)) (sym e) ∙ h)
 
-  pub noted : (ranks : List ℕ) (at rank : ℕ) → at < length ranks → is_of_length table rank (content_at table at) ≡ true → AreRanks table ranks → AreRanks table (slice_set ranks at rank)
+  pub noted : (ranks : List ℕ) (at rank : ℕ) → at < length ranks → is_of_length table rank (content_at table at) ≡ true → AreRanks table ranks
+      → AreRanks table (slice_set ranks at rank)
   noted ranks at rank less h known i = go (eqb i at) refl
     where
-      go : (b : Bool) → eqb i at ≡ b → 0 < slice_index (slice_set ranks at rank) i → is_of_length table (slice_index (slice_set ranks at rank) i) (content_at table i) ≡ true
+      go : (b : Bool) → eqb i at ≡ b → 0 < slice_index (slice_set ranks at rank) i
+          → is_of_length table (slice_index (slice_set ranks at rank) i) (content_at table i) ≡ true
       go true k = let same : i ≡ at = eqb-true i at k in rw (same, get_or-set_same) (λ p. h)
       go false k = let ne : i ≢ at = eqb-false i at k in rw get_or-set_other (known i)
 

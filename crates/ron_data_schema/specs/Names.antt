@@ -21,4 +21,5 @@ are_new seen names = list_all (λ s. not (holds_text (string_bytes s) seen)) nam
 
 -- Whatever stands behind the field's names, all are new where these are, and the others are beside what the set has then.
 abbrev pub AddsNames : BTreeSet (Bor (List ℕ)) → BTreeSet (Bor (List ℕ)) → FieldShape → Bool → Type 0
-AddsNames seen more field new = (behind : Names) → are_new (seen_in seen) (field.name ∷ (field.aliases.items ++ behind)) ≡ (new && are_new (seen_in more) behind)
+AddsNames seen more field new = (behind : Names)
+    → are_new (seen_in seen) (field.name ∷ (field.aliases.items ++ behind)) ≡ (new && are_new (seen_in more) behind)

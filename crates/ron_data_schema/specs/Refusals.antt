@@ -12,7 +12,8 @@ abbrev pub HasFault : List Shape → ℕ → SchemaFault → Type 0
 HasFault shapes root IndexOutOfRange = is_in_range shapes root ≡ false
 HasFault shapes root Cycle = (is_in_range shapes root ≡ true) × (has_no_cycle shapes ≡ false)
 HasFault shapes root DuplicateName = (is_in_range shapes root ≡ true) × (has_no_cycle shapes ≡ true) × (list_all has_distinct_names shapes ≡ false)
-HasFault shapes root MissingRangeField = (is_in_range shapes root ≡ true) × (has_no_cycle shapes ≡ true) × (list_all has_distinct_names shapes ≡ true) × (list_all has_whole_range shapes ≡ false)
+HasFault shapes root MissingRangeField =
+    (is_in_range shapes root ≡ true) × (has_no_cycle shapes ≡ true) × (list_all has_distinct_names shapes ≡ true) × (list_all has_whole_range shapes ≡ false)
 
 -- The table has the fault that the error names, or there is no memory.
 abbrev pub RefusesTable : List Shape → ℕ → Error → Type 0

@@ -1,5 +1,6 @@
 -- Shapes, as the grammar speaks of them.
-use Rattle.std.specs.Prelude.{◌≡◌, ℕ, Bool, true, false, suc, ◌+◌, ◌-◌, ◌^◌, List, map, chars, string_bytes, Option, Some, None, slice_get, IfSome, MatchOption, String}
+use Rattle.std.specs.Prelude.{◌≡◌, ℕ, Bool, true, false, suc, ◌+◌, ◌-◌, ◌^◌, List, map, chars, string_bytes, Option, Some, None, slice_get, IfSome, MatchOption}
+use Rattle.std.specs.Prelude.{String}
 use Rattle.std.specs.declared.alloc.Global.{Global}
 use Rattle.std.specs.Borrow.{Bor}
 use Rattle.ron_spec_words.specs.Characters.{Text}

@@ -1,5 +1,6 @@
 -- The items of lists and tuples, beside the steps of the code.
-use Rattle.std.proofs.Common.{◌≡◌, inl, inr, ℕ, suc, ◌+◌, ◌-◌, ◌<◌, ◌≤◌, ◌==◌, Bool, true, false, cond, nat_lt, List, [], ◌∷◌, ◌++◌, map, length, Vec, Global, Option, Some, None, Result, Ok, Err, slice_get, refl, sym, ap, ap₂, subst, ◌∙◌, arith, length-append, ◌*◌, eq-eqb}
+use Rattle.std.proofs.Common.{◌≡◌, inl, inr, ℕ, suc, ◌+◌, ◌-◌, ◌<◌, ◌≤◌, ◌==◌, Bool, true, false, cond, nat_lt, List, [], ◌∷◌, ◌++◌, map, length, Vec, Global}
+use Rattle.std.proofs.Common.{Option, Some, None, Result, Ok, Err, slice_get, refl, sym, ap, ap₂, subst, ◌∙◌, arith, length-append, ◌*◌, eq-eqb}
 use Rattle.std.proofs.lemmas.List.{map-append, length-map}
 use Rattle.std.proofs.lemmas.Bool.{ltb-true, ne_eqb}
 use Rattle.ron_spec_words.specs.Characters.{Text}
@@ -19,7 +20,8 @@ use Rattle.ron_spec_grammar.specs.Shapes.Tuple.{as_many}
 use Rattle.ron_spec_grammar.specs.Turns.{Elements, of_one, of_each, shape_after, shape_behind, read_element, read_elements}
 use Rattle.ron_spec_grammar.proofs.Finding.{all_get}
 use Rattle.ron_spec_grammar.proofs.Turns.{value_within, value_deep}
-use Rattle.ron_spec_grammar.proofs.ElementTurns.{element_value, no_element, elements_over, elements_failed, elements_last, elements_not_closed, elements_more, seq_opened}
+use Rattle.ron_spec_grammar.proofs.ElementTurns.{element_value, no_element, elements_over, elements_failed, elements_last, elements_not_closed, elements_more}
+use Rattle.ron_spec_grammar.proofs.ElementTurns.{seq_opened}
 use Rattle.ron_base.specs.declared.error.Error.{Error}
 use Rattle.ron_base.specs.Class.{ErrorClass, class_of}
 use Rattle.ron_lex.specs.Place.{Place}
@@ -41,11 +43,13 @@ use Rattle.ron_de_parts.proofs.GroupLemmas.{Opening, group_inside}
 
 -- ---- an item
 
-module _ (terms inner : Terms) (d : IsDeeper terms inner) (es : Elements) (index : ℕ) (place : Place) (room : ℕ) (seen : List plain.Data) (is : shape_behind es seen ≡ Some index) (r : IsRoom terms.limit (enough_for_items terms.schema (length place.rest)) room) where
+module _ (terms inner : Terms) (d : IsDeeper terms inner) (es : Elements) (index : ℕ) (place : Place) (room : ℕ) (seen : List plain.Data)
+    (is : shape_behind es seen ≡ Some index) (r : IsRoom terms.limit (enough_for_items terms.schema (length place.rest)) room) where
   room_there : RoomBelow inner.limit (enough terms.schema false index (length place.rest)) room
   room_there = room_below terms.limit inner.limit _ _ room d.2 r (item_within terms.schema index (length place.rest) (length place.rest) (omega arith))
 
-  is_value : read_element terms.extensions terms.schema (suc room) es seen place.gap place.rest ≡ read terms.extensions terms.schema room_there.left false index place.gap place.rest
+  is_value : read_element terms.extensions terms.schema (suc room) es seen place.gap place.rest
+      ≡ read terms.extensions terms.schema room_there.left false index place.gap place.rest
   is_value =
       let is_left : suc room - 2 ≡ room_there.left = omega (arith, room_there.is) in
       element_value terms.extensions terms.schema (suc room) es seen place.gap place.rest index is
@@ -53,21 +57,27 @@ module _ (terms inner : Terms) (d : IsDeeper terms inner) (es : Elements) (index
       ∙ ap (λ k. read terms.extensions terms.schema k false index place.gap place.rest) is_left
 
   -- what is said of the value, in each room that the limit leaves to it, is said of the item
-  pub element_there : (P : Got plain.Data → Type 0) → ((n : ℕ) → IsRoom inner.limit (enough inner.schema false index (length place.rest)) n → P (read inner.extensions inner.schema n false index place.gap place.rest)) → P (read_element terms.extensions terms.schema (suc room) es seen place.gap place.rest)
+  pub element_there : (P : Got plain.Data → Type 0) → ((n : ℕ) → IsRoom inner.limit (enough inner.schema false index (length place.rest)) n
+      → P (read inner.extensions inner.schema n false index place.gap place.rest))
+      → P (read_element terms.extensions terms.schema (suc room) es seen place.gap place.rest)
   element_there P g =
       let n = room_there.left in
       let h = g n (subst (λ (s : List Shape). IsRoom inner.limit (enough s false index (length place.rest)) n) (sym d.1) room_there.is_room) in
-      subst P (sym is_value) (subst (λ (s : List Shape). P (read terms.extensions s n false index place.gap place.rest)) d.1 (subst (λ (x : Extensions). P (read x inner.schema n false index place.gap place.rest)) d.0 h))
+      subst P (sym is_value) (subst (λ (s : List Shape). P (read terms.extensions s n false index place.gap place.rest)) d.1
+      (subst (λ (x : Extensions). P (read x inner.schema n false index place.gap place.rest)) d.0 h))
 
 module _ (terms : Terms) (es : Elements) (place : Place) (room : ℕ) (seen : List plain.Data) where
-  pub element_deep : (index : ℕ) → shape_behind es seen ≡ Some index → room ≡ 0 → read_element terms.extensions terms.schema (suc room) es seen place.gap place.rest ≡ failed deep
-  element_deep index is e = element_value terms.extensions terms.schema (suc room) es seen place.gap place.rest index is ∙ value_deep terms.extensions terms.schema (suc room) index place.gap place.rest (omega (arith, e))
+  pub element_deep : (index : ℕ) → shape_behind es seen ≡ Some index → room ≡ 0
+      → read_element terms.extensions terms.schema (suc room) es seen place.gap place.rest ≡ failed deep
+  element_deep index is e = element_value terms.extensions terms.schema (suc room) es seen place.gap place.rest index is
+      ∙ value_deep terms.extensions terms.schema (suc room) index place.gap place.rest (omega (arith, e))
 
   pub element_none : shape_behind es seen ≡ None → read_element terms.extensions terms.schema (suc room) es seen place.gap place.rest ≡ failed bad
   element_none = no_element terms.extensions terms.schema (suc room) es seen place.gap place.rest
 
 -- the shape behind so many is that behind these
-pub behind_these : (es : Elements) (seen : List plain.Data) (count : ℕ) (o : Option ℕ) → length seen ≡ count → o ≡ shape_after es count → shape_behind es seen ≡ o
+pub behind_these : (es : Elements) (seen : List plain.Data) (count : ℕ) (o : Option ℕ) → length seen ≡ count → o ≡ shape_after es count
+    → shape_behind es seen ≡ o
 behind_these es seen count o e is = ap (shape_after es) e ∙ sym is
 
 -- its index is in range
@@ -84,9 +94,12 @@ pub element_falls : (schema inner : List Shape) (j m n : ℕ) → inner ≡ sche
 element_falls schema inner j m n e le = rw e (omega (arith, item_within schema j m n le))
 
 -- what is read of the value is read of the item
-pub reads_element : (terms inner : Terms) → IsDeeper terms inner → (es : Elements) (index : ℕ) (place : Place) (room : ℕ) (seen : List plain.Data) → shape_behind es seen ≡ Some index → IsRoom terms.limit (enough_for_items terms.schema (length place.rest)) room
-    → (result : Result Data Error) (rest : Text) → ReadsValue inner index place result rest → Reads data_view result (read_element terms.extensions terms.schema (suc room) es seen place.gap place.rest) rest
-reads_element terms inner d es index place room seen is r (Ok v) rest h = element_there terms inner d es index place room seen is r (λ o. o ≡ got (data_view v) rest) h
+pub reads_element : (terms inner : Terms) → IsDeeper terms inner → (es : Elements) (index : ℕ) (place : Place) (room : ℕ) (seen : List plain.Data)
+    → shape_behind es seen ≡ Some index → IsRoom terms.limit (enough_for_items terms.schema (length place.rest)) room
+    → (result : Result Data Error) (rest : Text) → ReadsValue inner index place result rest
+    → Reads data_view result (read_element terms.extensions terms.schema (suc room) es seen place.gap place.rest) rest
+reads_element terms inner d es index place room seen is r (Ok v) rest h =
+    element_there terms inner d es index place room seen is r (λ o. o ≡ got (data_view v) rest) h
 reads_element terms inner d es index place room seen is r (Err e) rest h = element_there terms inner d es index place room seen is r (IsFaultOf (class_of e)) h
 
 -- ---- the items of a list
@@ -103,7 +116,8 @@ module _ (terms : Terms) (es : Elements) (close : ℕ) (c : Encloses close) wher
     over = λ room seen gap s. elements_over terms.extensions terms.schema (suc room) es close (c.0, c.1, c.2) f seen gap s;
     fails = λ room seen gap s still. elements_failed terms.extensions terms.schema (suc room) es close (c.0, c.1, c.2) f seen gap s still;
     last = λ room seen gap s still a rest u e. elements_last terms.extensions terms.schema (suc room) es close (c.0, c.1, c.2) f seen gap s still a rest e u;
-    stays_open = λ room seen gap s still a rest e. elements_not_closed terms.extensions terms.schema (suc room) es close (c.0, c.1, c.2) f seen gap s still a rest e;
+    stays_open =
+        λ room seen gap s still a rest e. elements_not_closed terms.extensions terms.schema (suc room) es close (c.0, c.1, c.2) f seen gap s still a rest e;
     goes_on = λ room seen gap s still a rest u e. elements_more terms.extensions terms.schema (suc room) es close (c.0, c.1, c.2) f seen gap s still a rest e u;
     no_slash = c.3;
   }
@@ -113,7 +127,8 @@ module _ (terms : Terms) (es : Elements) (close : ℕ) (c : Encloses close) wher
     pub seen : List plain.Data
     pub in_turn : all_items seen [] ≡ map data_view items
     pub count : length seen ≡ length items
-    pub reads : (f : List plain.Data → Option plain.Data) → ItemsRead an_element (all_elements f) close f (elements_turns f) terms.limit (enough_for_items terms.schema) (items_later terms.schema) seen old now
+    pub reads : (f : List plain.Data → Option plain.Data)
+        → ItemsRead an_element (all_elements f) close f (elements_turns f) terms.limit (enough_for_items terms.schema) (items_later terms.schema) seen old now
 
   module _ (items : List Data) (old now : Place) (h : ElementsRead items old now) where
     -- the room that the limit leaves to the items from a place on
@@ -125,26 +140,33 @@ module _ (terms : Terms) (es : Elements) (close : ℕ) (c : Encloses close) wher
     ReadsNext P = (room : ℕ) (seen : List plain.Data) → length seen ≡ length items → IsRoomOf now.rest room → P (an_element room seen now.gap now.rest)
 
     module _ (still : is_at close now.rest ≡ false) where
-      pub element_refused : (k : ErrorClass) → ReadsNext (IsFaultOf k) → (f : List plain.Data → Option plain.Data) (room : ℕ) → IsRoomOf old.rest room → IsFaultOf k (all_elements f room [] old.gap old.rest)
+      pub element_refused : (k : ErrorClass) → ReadsNext (IsFaultOf k) → (f : List plain.Data → Option plain.Data) (room : ℕ) → IsRoomOf old.rest room
+          → IsFaultOf k (all_elements f room [] old.gap old.rest)
       element_refused k g f = item_fails _ _ _ _ _ _ _ _ h.seen old now (h.reads f) still k (λ room r. g room h.seen h.count r)
 
       module _ (d : Data) (rest : Text) (g : ReadsNext (λ o. o ≡ got (data_view d) rest)) where
-        pub no_comma_after : (e : Error) → IsMemoryOr (past_item close rest ≡ None) e → (f : List plain.Data → Option plain.Data) (room : ℕ) → IsRoomOf old.rest room → IsFaultOf (class_of e) (all_elements f room [] old.gap old.rest)
+        pub no_comma_after : (e : Error) → IsMemoryOr (past_item close rest ≡ None) e → (f : List plain.Data → Option plain.Data) (room : ℕ)
+            → IsRoomOf old.rest room → IsFaultOf (class_of e) (all_elements f room [] old.gap old.rest)
         no_comma_after e t f = comma_fails _ _ _ _ _ _ _ _ h.seen old now (h.reads f) still (data_view d) rest (λ room r. g room h.seen h.count r) e t
 
-        pub element_more : (more : List Data) (next : Place) → more ≡ items ++ d ∷ [] → past_item close rest ≡ Some (next.gap, next.rest) → length next.rest ≤ length now.rest → ElementsRead more old next
+        pub element_more : (more : List Data) (next : Place) → more ≡ items ++ d ∷ [] → past_item close rest ≡ Some (next.gap, next.rest)
+            → length next.rest ≤ length now.rest → ElementsRead more old next
         element_more more next m p shorter = record {
           seen = data_view d ∷ h.seen;
-          in_turn = in_order h.seen [] (data_view d ∷ []) ∙ ap (λ xs. xs ++ data_view d ∷ []) h.in_turn ∙ sym (ap (map data_view) m ∙ map-append data_view items (d ∷ []));
+          in_turn = in_order h.seen [] (data_view d ∷ []) ∙ ap (λ xs. xs ++ data_view d ∷ []) h.in_turn
+              ∙ sym (ap (map data_view) m ∙ map-append data_view items (d ∷ []));
           count = omega (arith, h.count, ap length m, length-append items (d ∷ []));
           reads = λ f. one_more _ _ _ _ _ _ _ _ h.seen old now (h.reads f) still (data_view d) rest (λ room r. g room h.seen h.count r) next p shorter;
         }
 
-    pub elements_all : is_at close now.rest ≡ true → (f : List plain.Data → Option plain.Data) (room : ℕ) → IsRoomOf old.rest room → (u : Text) × (now.rest ≡ close ∷ u) × (all_elements f room [] old.gap old.rest ≡ given (f (map data_view items)) u)
-    elements_all over f room r = let b = at_mark close now.rest over in (b.0, b.1, items_over _ _ _ _ _ _ _ _ h.seen old now (h.reads f) b.0 b.1 room r ∙ ap (λ xs. given (f xs) b.0) h.in_turn)
+    pub elements_all : is_at close now.rest ≡ true → (f : List plain.Data → Option plain.Data) (room : ℕ) → IsRoomOf old.rest room
+        → (u : Text) × (now.rest ≡ close ∷ u) × (all_elements f room [] old.gap old.rest ≡ given (f (map data_view items)) u)
+    elements_all over f room r = let b = at_mark close now.rest over in
+        (b.0, b.1, items_over _ _ _ _ _ _ _ _ h.seen old now (h.reads f) b.0 b.1 room r ∙ ap (λ xs. given (f xs) b.0) h.in_turn)
 
 -- a turn takes characters, or ends at the closing one
-pub turn_falls : (close : ℕ) (now rest g t : Text) → is_at close now ≡ false → length rest ≤ length now → past_item close rest ≡ Some (g, t) → 2 * length t + cond (is_at close t) 0 1 < 2 * length now + cond (is_at close now) 0 1
+pub turn_falls : (close : ℕ) (now rest g t : Text) → is_at close now ≡ false → length rest ≤ length now → past_item close rest ≡ Some (g, t)
+    → 2 * length t + cond (is_at close t) 0 1 < 2 * length now + cond (is_at close now) 0 1
 turn_falls close now rest g t still le p = elim (comma_cases close (gap_of rest) (skip rest) g t (unless_some rest _ (g, t) (sym (item_is close rest) ∙ p)).1) [
   | inl z ↦ rw still (omega (arith, le, length-skip rest, ap length z.1, ap length z.4, length-skip z.0, small (is_at close t)))
   | inr z ↦ rw still (omega (arith, le, length-skip rest, ap length z.1, ap length z.2, closed z.2))
@@ -167,15 +189,23 @@ abbrev pub elements_inside : Terms → Elements → ℕ → (List plain.Data →
 elements_inside terms es close f k = read_elements terms.extensions terms.schema k es close f []
 
 module _ (x : Extensions) (schema : List Shape) (room i : ℕ) (before s u : Text) where
-  pub seq_opening : (j : ℕ) → slice_get schema i ≡ Some (seq j) → s ≡ 91 ∷ u → Opening (λ k. read_elements x schema k (of_one j) 93 list_data []) u (read x schema room false i before s) room
+  pub seq_opening : (j : ℕ) → slice_get schema i ≡ Some (seq j) → s ≡ 91 ∷ u
+      → Opening (λ k. read_elements x schema k (of_one j) 93 list_data []) u (read x schema room false i before s) room
   seq_opening j e o = seq_opened x schema room i before s j e u o
 
 -- what is said of the items, as they are read a level deeper, is said of the value
-module _ (terms inner : Terms) (d : IsDeeper terms inner) (es : Elements) (close : ℕ) (f : List plain.Data → Option plain.Data) (i : ℕ) (u : Text) (old place : Place) (room : ℕ)
-    (o : Opening (elements_inside terms es close f) u (read terms.extensions terms.schema room false i old.gap old.rest) room) (m : is_at 47 (skip u) ≡ false) (g : place.gap ≡ gap_of u) (w : place.rest ≡ skip u) (shorter : length place.rest < length old.rest) (r : IsRoom terms.limit (enough terms.schema false i (length old.rest)) room) where
-  pub elements_said : (P : Got plain.Data → Type 0) → ((k : ℕ) → IsRoom inner.limit (enough_for_items inner.schema (length place.rest)) k → P (read_elements inner.extensions inner.schema (suc k) es close f [] place.gap place.rest)) → P (read terms.extensions terms.schema room false i old.gap old.rest)
-  elements_said P h = group_inside (elements_inside terms es close f) u (read terms.extensions terms.schema room false i old.gap old.rest) room o m terms inner d i old place g w shorter r P
-      (λ k q. subst (λ (s : List Shape). P (read_elements terms.extensions s (suc k) es close f [] place.gap place.rest)) d.1 (subst (λ (x : Extensions). P (read_elements x inner.schema (suc k) es close f [] place.gap place.rest)) d.0 (h k q)))
+module _ (terms inner : Terms) (d : IsDeeper terms inner) (es : Elements) (close : ℕ) (f : List plain.Data → Option plain.Data) (i : ℕ) (u : Text)
+    (old place : Place) (room : ℕ)
+    (o : Opening (elements_inside terms es close f) u (read terms.extensions terms.schema room false i old.gap old.rest) room) (m : is_at 47 (skip u) ≡ false)
+    (g : place.gap ≡ gap_of u) (w : place.rest ≡ skip u) (shorter : length place.rest < length old.rest)
+    (r : IsRoom terms.limit (enough terms.schema false i (length old.rest)) room) where
+  pub elements_said : (P : Got plain.Data → Type 0) → ((k : ℕ) → IsRoom inner.limit (enough_for_items inner.schema (length place.rest)) k
+      → P (read_elements inner.extensions inner.schema (suc k) es close f [] place.gap place.rest))
+      → P (read terms.extensions terms.schema room false i old.gap old.rest)
+  elements_said P h = group_inside (elements_inside terms es close f) u (read terms.extensions terms.schema room false i old.gap old.rest) room o m terms inner
+      d i old place g w shorter r P
+      (λ k q. subst (λ (s : List Shape). P (read_elements terms.extensions s (suc k) es close f [] place.gap place.rest)) d.1
+      (subst (λ (x : Extensions). P (read_elements x inner.schema (suc k) es close f [] place.gap place.rest)) d.0 (h k q)))
 
 module _ (items : Vec Data Global) (rest : Text) (answer : Got plain.Data) where
   pub seq_value : AreElements 93 list_data (Ok items) answer rest → (end : Text) → rest ≡ 93 ∷ end → answer ≡ got (data_view (data_.Seq items)) end
@@ -183,7 +213,8 @@ module _ (items : Vec Data Global) (rest : Text) (answer : Got plain.Data) where
 
   module _ (make : plain.Datas → plain.Data) (js : List ℕ) (h : AreElements 41 (as_many make js) (Ok items) answer rest) where
     made : (b : Bool) → (length items.items == length js) ≡ b → as_many make js (map data_view items.items) ≡ cond b (Some (make (items_view items.items))) None
-    made b e = ap (λ n. cond (n == length js) (Some (make (items_view items.items))) None) (length-map items.items data_view) ∙ ap (λ t. cond t (Some (make (items_view items.items))) None) e
+    made b e = ap (λ n. cond (n == length js) (Some (make (items_view items.items))) None) (length-map items.items data_view)
+        ∙ ap (λ t. cond t (Some (make (items_view items.items))) None) e
 
     pub tuple_short : (length items.items ≡ length js → ⊥) → answer ≡ failed bad
     tuple_short differ = h.2 ∙ ap (λ o. given o h.0) (made false (ne_eqb (length items.items) (length js) differ))

@@ -1,5 +1,6 @@
 -- Where whole tokens lead behind a value that was read; and the longest chain.
-use Rattle.std.proofs.Common.{◌≡◌, ℕ, zero, suc, ◌+◌, ◌*◌, ◌-◌, ◌<◌, ◌≤◌, true, false, List, length, drop, ◌∷◌, codes, Result, Ok, Err, refl, sym, ap, subst, arith}
+use Rattle.std.proofs.Common.{◌≡◌, ℕ, zero, suc, ◌+◌, ◌*◌, ◌-◌, ◌<◌, ◌≤◌, true, false, List, length, drop, ◌∷◌, codes, Result, Ok, Err, refl, sym, ap, subst}
+use Rattle.std.proofs.Common.{arith}
 use Rattle.ron_spec_words.specs.Characters.{Text}
 use Rattle.ron_spec_words.specs.Reader.{got}
 use Rattle.ron_spec_words.specs.Directly.{stands}
@@ -28,7 +29,8 @@ use Rattle.ron_de_parts.specs.Values.{ReadsValue, SkipsValue}
 
 -- ---- behind a value
 
-value_leads : (x : Extensions) (schema : List Shape) (room i : ℕ) (before s rest : Text) (d : plain.Data) → read x schema room false i before s ≡ got d rest → FollowsValue rest → Leads s rest
+value_leads : (x : Extensions) (schema : List Shape) (room i : ℕ) (before s rest : Text) (d : plain.Data) → read x schema room false i before s ≡ got d rest
+    → FollowsValue rest → Leads s rest
 value_leads x schema room i before s rest d e f =
     let y = value.sound false x schema i room before s rest d e in
     subst (λ u. Leads u rest) (sym y.split) (leads_walk (value.walk false x schema i room 0 before y.stretch rest d y.spelled f))
@@ -61,7 +63,8 @@ over_gap old new e = subst (Leads old.rest) (sym e) (leads_gap old.rest)
 
 -- over the word `Some`, a gap and the parenthesis
 pub over_some : (old new : Place) → stands (codes "Some") old.rest ≡ true → skip (drop 4 old.rest) ≡ 40 ∷ new.rest → Leads old.rest new.rest
-over_some old new s e = leads_on (leads_some old.rest s) (leads_on (subst (Leads (drop 4 old.rest)) e (leads_gap (drop 4 old.rest))) (leads_opening 40 new.rest refl))
+over_some old new s e =
+    leads_on (leads_some old.rest s) (leads_on (subst (Leads (drop 4 old.rest)) e (leads_gap (drop 4 old.rest))) (leads_opening 40 new.rest refl))
 
 -- ---- the longest chain
 
@@ -87,5 +90,7 @@ module _ (schema : List Shape) where
   items_looks = omega arith
 
   -- a value as one of the items
-  pub item_spent : {A E : Type 0} (i : ℕ) (old : Place) (r : Result A E) (new : Place) → i < length schema → SpendsShape schema i old r new → SpendsItems schema old r new
-  item_spent i old r new lt h = λ p. spends_more paid_besides (chain schema) (rank schema i + 2) (chain schema + 2) old r new (omega (arith, rank_in_chain i lt)) (h p)
+  pub item_spent : {A E : Type 0} (i : ℕ) (old : Place) (r : Result A E) (new : Place) → i < length schema → SpendsShape schema i old r new
+      → SpendsItems schema old r new
+  item_spent i old r new lt h =
+      λ p. spends_more paid_besides (chain schema) (rank schema i + 2) (chain schema + 2) old r new (omega (arith, rank_in_chain i lt)) (h p)

@@ -30,11 +30,14 @@ module _ (fields : List Field) where
     find_once [] xs h = refl
     find_once (item ∷ seen) xs h = find_once seen (item ∷ xs) h.1 ∙ go (is_of name item) refl
       where
-        go : (b : Bool) → is_of name item ≡ b → option_or (find (is_of name) seen) (cond b (Some item) (find (is_of name) xs)) ≡ option_or (cond b (Some item) (find (is_of name) seen)) (find (is_of name) xs)
+        go : (b : Bool) → is_of name item ≡ b → option_or (find (is_of name) seen) (cond b (Some item) (find (is_of name) xs))
+            ≡ option_or (cond b (Some item) (find (is_of name) seen)) (find (is_of name) xs)
         go true e = ap (λ o. option_or o (Some item)) (none_found (is_of name) seen (unseen seen item h.0 e))
         go false e = refl
 
-  pub arranged_once : (seen : List Item) → AreOnce fields seen → (gs : List Field) → Each (IsFound fields) gs → arranged gs (all_items seen []) ≡ arranged gs seen
+  pub arranged_once : (seen : List Item) → AreOnce fields seen → (gs : List Field) → Each (IsFound fields) gs
+      → arranged gs (all_items seen []) ≡ arranged gs seen
   unfolding IsFound
   arranged_once seen h [] t = refl
-  arranged_once seen h (f ∷ gs) t = ap₂ (with_item f.may_be_missing) (find_once f.name (named_called f.name fields (found_any (is_named f.name) fields f t.0)) seen [] h ∙ or_none (find (is_of f.name) seen)) (arranged_once seen h gs t.1)
+  arranged_once seen h (f ∷ gs) t = ap₂ (with_item f.may_be_missing) (find_once f.name (named_called f.name fields (found_any (is_named f.name) fields f t.0))
+      seen [] h ∙ or_none (find (is_of f.name) seen)) (arranged_once seen h gs t.1)

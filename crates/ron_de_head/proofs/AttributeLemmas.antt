@@ -58,7 +58,8 @@ together_and e [] = refl
 together_and e (f ∷ es) = ap Some (in_force_and f e es)
 
 -- what is refused where nothing but memory could be wanted
-pub refused_here : {A : Type 0} (P : Type 0) (k : ErrorClass) (answer : Got A) → IsMemoryOrClass P k → IsFaultOf k answer → IsMemoryOrClass (answer ≡ failed bad) k
+pub refused_here : {A : Type 0} (P : Type 0) (k : ErrorClass) (answer : Got A) → IsMemoryOrClass P k → IsFaultOf k answer
+    → IsMemoryOrClass (answer ≡ failed bad) k
 refused_here P memory answer t f = tt
 refused_here P depth answer t f = absurd t
 refused_here P other answer t f = f
@@ -70,9 +71,11 @@ module _ (found : Extensions) (old now : Place) (h : NamesRead found old now) wh
 
     module _ (named : Extensions) (rest : Text) (g : extension now.rest ≡ got named rest) where
       pub no_comma_behind : (e : Error) → IsMemoryOr (past_item 41 rest ≡ None) e → IsMemoryOr (names_from [] old.gap old.rest ≡ failed bad) e
-      no_comma_behind e t = refused_here _ (class_of e) _ t (comma_fails _ _ _ _ _ _ _ _ h.seen old now h.items still named rest (λ room r. g) e t 0 (omega arith))
+      no_comma_behind e t =
+          refused_here _ (class_of e) _ t (comma_fails _ _ _ _ _ _ _ _ h.seen old now h.items still named rest (λ room r. g) e t 0 (omega arith))
 
-      pub name_more : (next : Place) → past_item 41 rest ≡ Some (next.gap, next.rest) → length next.rest ≤ length now.rest → NamesRead (union found named) old next
+      pub name_more : (next : Place) → past_item 41 rest ≡ Some (next.gap, next.rest) → length next.rest ≤ length now.rest
+          → NamesRead (union found named) old next
       name_more next c shorter =
           let order : all_items (named ∷ h.seen) [] ≡ all_items h.seen [] ++ named ∷ [] = in_order h.seen [] (named ∷ []) in
           let all : union (in_force no_extensions (all_items h.seen [])) named ≡ union found named = ap (λ (x : Extensions). union x named) h.together_found in
@@ -84,7 +87,8 @@ module _ (found : Extensions) (old now : Place) (h : NamesRead found old now) wh
           }
 
   pub names_all : is_at 41 now.rest ≡ true → (u : Text) × (now.rest ≡ 41 ∷ u) × (names_from [] old.gap old.rest ≡ got found u)
-  names_all over = let b = at_mark 41 now.rest over in (b.0, b.1, items_over _ _ _ _ _ _ _ _ h.seen old now h.items b.0 b.1 0 (omega arith) ∙ ap (λ o. given o b.0) (h.begun over))
+  names_all over = let b = at_mark 41 now.rest over in
+      (b.0, b.1, items_over _ _ _ _ _ _ _ _ h.seen old now h.items b.0 b.1 0 (omega arith) ∙ ap (λ o. given o b.0) (h.begun over))
 
 -- no name stands there
 pub none_named : (gap s : Text) → is_at 41 s ≡ true → names_from [] gap s ≡ failed bad
@@ -94,7 +98,8 @@ pub names_at : (s : Text) (p : Text × Text) → past_mark 40 s ≡ Some p → n
 unfolding names_from rest_of_group
 names_at s p e = marked 40 (names_from []) s p e
 
-pub names_closed : (found : Extensions) (s rest end : Text) (p : Text × Text) → past_mark 40 s ≡ Some p → (u : Text) × (rest ≡ 41 ∷ u) × (names_from [] p.0 p.1 ≡ got found u) → rest ≡ 41 ∷ end → names s ≡ got found end
+pub names_closed : (found : Extensions) (s rest end : Text) (p : Text × Text) → past_mark 40 s ≡ Some p
+    → (u : Text) × (rest ≡ 41 ∷ u) × (names_from [] p.0 p.1 ≡ got found u) → rest ≡ 41 ∷ end → names s ≡ got found end
 names_closed found s rest end p e q over = let same : q.0 ≡ end = tail_same q.0 end (sym q.1 ∙ over) in names_at s p e ∙ q.2 ∙ ap (got found) same
 
 -- ---- an attribute
@@ -156,12 +161,14 @@ module _ (x : Extensions) (gap s : Text) (hash : is_at 35 s ≡ true) where
   past_attribute y u k = rw (hash, k) refl
 
   -- so from where it began
-  pub further : (first : Extensions) (old : Text) → value_start first old ≡ start_behind x gap s → (y : Extensions) (u : Text) → attribute s ≡ got y u → value_start first old ≡ value_start (union x y) u
+  pub further : (first : Extensions) (old : Text) → value_start first old ≡ start_behind x gap s → (y : Extensions) (u : Text) → attribute s ≡ got y u
+      → value_start first old ≡ value_start (union x y) u
   further first old h y u k = h ∙ past_attribute y u k
 
 -- ---- the names in parentheses
 
-pub names_refused : (e : Error) (s : Text) (p : Text × Text) → past_mark 40 s ≡ Some p → IsMemoryOr (names_from [] p.0 p.1 ≡ failed bad) e → IsMemoryOr (names s ≡ failed bad) e
+pub names_refused : (e : Error) (s : Text) (p : Text × Text) → past_mark 40 s ≡ Some p → IsMemoryOr (names_from [] p.0 p.1 ≡ failed bad) e
+    → IsMemoryOr (names s ≡ failed bad) e
 names_refused e s p m h = memory_or_more e (λ k. names_at s p m ∙ k) h
 
 -- where an attribute begins, one begins

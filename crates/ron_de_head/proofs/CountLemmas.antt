@@ -23,8 +23,10 @@ pub same_twice : (old mid new : Place) → mid ≡ old → GoesOver 2 mid new �
 same_twice old mid new e h = subst (λ (p : Place). GoesOver 2 p new) e h
 
 -- a mark, and the gap behind it
-pub mark_and_gap : {A E : Type 0} (c : ℕ) (old mid : Place) (r : Result A E) (new : Place) → GoesOver 1 old mid → old.rest ≡ c ∷ mid.rest → Moves 1 mid r new → OnOk r (new.rest ≡ skip mid.rest) → Moves 2 old r new
-mark_and_gap c old mid (Ok a) new h e m s = record { moved = omega (arith, mark_twice c old mid h e, gap_twice mid new m.moved s); most = omega (arith, mark_twice c old mid h e, m.most) }
+pub mark_and_gap : {A E : Type 0} (c : ℕ) (old mid : Place) (r : Result A E) (new : Place) → GoesOver 1 old mid → old.rest ≡ c ∷ mid.rest → Moves 1 mid r new
+    → OnOk r (new.rest ≡ skip mid.rest) → Moves 2 old r new
+mark_and_gap c old mid (Ok a) new h e m s =
+    record { moved = omega (arith, mark_twice c old mid h e, gap_twice mid new m.moved s); most = omega (arith, mark_twice c old mid h e, m.most) }
 mark_and_gap c old mid (Err x) new h e m s = record { moved = tt; most = omega (arith, mark_twice c old mid h e, m.most) }
 
 pub moved_twice : {A E : Type 0} (old : Place) (r : Result A E) (new : Place) → Moves 1 old r new → OnOk r (Nears old new) → Moves 2 old r new

@@ -1,5 +1,6 @@
 -- A field's name that stands where it is awaited, with its colon directly behind it; and what is read behind a look.
-use Rattle.std.proofs.Common.{◌≡◌, ℕ, ◌<◌, true, false, List, [], ◌∷◌, length, Option, Some, None, Result, Ok, Err, OnOk, MatchResult, slice_get, refl, sym, ap, subst, arith}
+use Rattle.std.proofs.Common.{◌≡◌, ℕ, ◌<◌, true, false, List, [], ◌∷◌, length, Option, Some, None, Result, Ok, Err, OnOk, MatchResult, slice_get, refl, sym, ap}
+use Rattle.std.proofs.Common.{subst, arith}
 use Rattle.std.specs.List.{position}
 use Rattle.std.proofs.lemmas.List.{length-append}
 use Rattle.ron_spec_words.specs.Beyond.{bytes_in, beyond}
@@ -40,7 +41,8 @@ module _ (old mid new : Place) (n : Text) (e : name old.rest ≡ got n (58 ∷ m
   abbrev named : Place
   named = record { text = old.text; rest = 58 ∷ mid.rest; token_start = old.rest; gap = []; counted = 0; turns = 0 }
 
-  pub awaited_slash : (x : Extensions) (schema : List Shape) (room : ℕ) (list : FieldList) (seen : List Item) → is_at 47 (skip mid.rest) ≡ true → read_item x schema room list seen old.rest ≡ failed bad
+  pub awaited_slash : (x : Extensions) (schema : List Shape) (room : ℕ) (list : FieldList) (seen : List Item) → is_at 47 (skip mid.rest) ≡ true
+      → read_item x schema room list seen old.rest ≡ failed bad
   awaited_slash x schema room list seen m = colon_slash x schema room list seen old.rest n (58 ∷ mid.rest) e (58 ∷ mid.rest) mid.rest (no_gap mid.rest) refl m
 
   pub awaited_shorter : length mid.rest < length old.rest
@@ -53,21 +55,27 @@ module _ (old mid new : Place) (n : Text) (e : name old.rest ≡ got n (58 ∷ m
     pub awaited_leads : Leads old.rest new.rest
     awaited_leads = field_leads old named named mid new n e (no_gap mid.rest) refl is_rest
 
-    pub awaited_value : (list : code.FieldList) (found : Slots) (index : ℕ) → is_at 47 (skip mid.rest) ≡ false → new.gap ≡ gap_of mid.rest → Some index ≡ position (λ f. is_called n (field_view f)) list.fields.items → IsFree list.fields.items found index
+    pub awaited_value : (list : code.FieldList) (found : Slots) (index : ℕ) → is_at 47 (skip mid.rest) ≡ false → new.gap ≡ gap_of mid.rest
+        → Some index ≡ position (λ f. is_called n (field_view f)) list.fields.items → IsFree list.fields.items found index
         → ReadsFieldName (list_view list) (slots_view (slots_in list.fields.items found)) old (Ok (Some index)) new
-    awaited_value list found index m is_gap at free = λ x schema room seen h. at_target x schema room (list_view list) seen old.rest n (58 ∷ mid.rest) e (58 ∷ mid.rest) mid.rest new (no_gap mid.rest) refl m is_gap is_rest
+    awaited_value list found index m is_gap at free = λ x schema room seen h.
+        at_target x schema room (list_view list) seen old.rest n (58 ∷ mid.rest) e (58 ∷ mid.rest) mid.rest new (no_gap mid.rest) refl m is_gap is_rest
         (Some index) (in_view list.fields.items found (Some index) free)
-        (new_target n list seen list.fields.items refl index at (slots_in list.fields.items found) h (kept_in n list.fields.items found index at false (is_filled (slice_get (so_far found) index)) refl free.1))
+        (new_target n list seen list.fields.items refl index
+        at (slots_in list.fields.items found) h (kept_in n list.fields.items found index at false (is_filled (slice_get (so_far found) index)) refl free.1))
 
 -- ---- behind a look, which leaves the place
 
 module _ (old looked : Place) (stays : Stays old looked) where
-  pub value_behind_look : (list : FieldList) (slots : List (Option plain.Data)) (result : Result (Option ℕ) Error) (new : Place) → ReadsFieldName list slots looked result new → ReadsFieldName list slots old result new
+  pub value_behind_look : (list : FieldList) (slots : List (Option plain.Data)) (result : Result (Option ℕ) Error) (new : Place)
+      → ReadsFieldName list slots looked result new → ReadsFieldName list slots old result new
   value_behind_look list slots result new h = λ x schema room seen s.
-      subst (λ (t : Text). MatchResult result (λ index. IsAtTarget x schema room list seen index t new) (IsMemoryOr (read_item x schema room list seen t ≡ failed bad))) stays.rest (h x schema room seen s)
+      subst (λ (t : Text). MatchResult result (λ index. IsAtTarget x schema room list seen index t new)
+      (IsMemoryOr (read_item x schema room list seen t ≡ failed bad))) stays.rest (h x schema room seen s)
 
   pub enters_behind_look : (result : Result (Option ℕ) Error) (new : Place) → OnOk result (Enters looked new) → OnOk result (Enters old new)
-  enters_behind_look (Ok a) new h = let at = ap bytes_in stays.rest in record { with_gap = omega (arith, h.with_gap, at); past = omega (arith, h.past, ap (λ t. bytes_in (beyond t)) stays.rest) }
+  enters_behind_look (Ok a) new h = let at = ap bytes_in stays.rest in
+      record { with_gap = omega (arith, h.with_gap, at); past = omega (arith, h.past, ap (λ t. bytes_in (beyond t)) stays.rest) }
   enters_behind_look (Err e) new h = tt
 
   pub leads_behind_look : (result : Result (Option ℕ) Error) (new : Place) → LeadsOn looked result new → LeadsOn old result new

@@ -1,5 +1,6 @@
 -- Bytes in their three forms, beside the steps of `bytes.rt`.
-use Rattle.std.proofs.Common.{◌≡◌, ℕ, suc, ◌≤◌, Bool, true, false, ◌&&◌, cond, ℤ, pos, List, [], ◌∷◌, ◌++◌, length, Vec, Global, Some, None, Result, refl, sym, ap, ap₂, subst, ◌∙◌}
+use Rattle.std.proofs.Common.{◌≡◌, ℕ, suc, ◌≤◌, Bool, true, false, ◌&&◌, cond, ℤ, pos, List, [], ◌∷◌, ◌++◌, length, Vec, Global, Some, None, Result, refl, sym}
+use Rattle.std.proofs.Common.{ap, ap₂, subst, ◌∙◌}
 use Rattle.std.specs.Prelude.{◌==◌}
 use Rattle.std.proofs.lemmas.Bool.{or_parts}
 use Rattle.ron_spec_words.specs.Characters.{Text, left_bracket}
@@ -45,7 +46,8 @@ as_integer : (o : Got Numeral) (b : ℕ) (rest : Text) → meant o (in_width U8)
 as_integer (failed x) b rest e = absurd (cc)
 as_integer (got n next) b rest e = go (suits U8 n.suffix && fits U8 (numeral_value n)) (numeral_value n) e
   where
-    go : (ok : Bool) (v : ℤ) → given (cond ok (Some (plain.int_of U8 v)) None) next ≡ got (plain.int_of U8 (pos b)) rest → given (cond ok (natural v) None) next ≡ got b rest
+    go : (ok : Bool) (v : ℤ) → given (cond ok (Some (plain.int_of U8 v)) None) next ≡ got (plain.int_of U8 (pos b)) rest
+        → given (cond ok (natural v) None) next ≡ got b rest
     go true v e = let same : v ≡ pos b = cc in let next_is : next ≡ rest = cc in rw (same, next_is) refl
     go false v e = absurd (cc)
 
@@ -57,7 +59,8 @@ as_fault (got n next) x e = go (suits U8 n.suffix && fits U8 (numeral_value n)) 
     go true v e = absurd (cc)
     go false v e = let same : bad ≡ x = cc in ap failed same
 
-pub byte_read : (room : ℕ) (s rest : Text) (n : Number) (b : ℕ) → 2 ≤ room → n ≡ number.U8 b → read_int U8 false s ≡ got (number_view n) rest → byte_item room s ≡ got b rest
+pub byte_read : (room : ℕ) (s rest : Text) (n : Number) (b : ℕ) → 2 ≤ room → n ≡ number.U8 b → read_int U8 false s ≡ got (number_view n) rest
+    → byte_item room s ≡ got b rest
 byte_read room s rest n b le is e = byte_within room s le ∙ as_integer (any_integer s) b rest (subst (λ m. read_int U8 false s ≡ got (number_view m) rest) is e)
 
 pub byte_fails : (k : ErrorClass) (room : ℕ) (s : Text) → 2 ≤ room → IsFaultOf k (read_int U8 false s) → IsFaultOf k (byte_item room s)
@@ -99,18 +102,27 @@ module _ (terms : Terms) (bs : List ℕ) (old now : Place) (h : BytesRead terms 
   IsRoomOf s room = IsRoom terms.limit (enough_for_items terms.schema (length s)) room
 
   module _ (still : is_at 93 now.rest ≡ false) where
-    pub byte_refused : (k : ErrorClass) → ((room : ℕ) → IsRoomOf now.rest room → IsFaultOf k (byte_item (suc room) now.rest)) → (room : ℕ) → IsRoomOf old.rest room → IsFaultOf k (read_bytes_from (suc room) [] old.gap old.rest)
+    pub byte_refused : (k : ErrorClass) → ((room : ℕ) → IsRoomOf now.rest room → IsFaultOf k (byte_item (suc room) now.rest)) → (room : ℕ)
+        → IsRoomOf old.rest room → IsFaultOf k (read_bytes_from (suc room) [] old.gap old.rest)
     byte_refused k g = item_fails _ _ _ _ _ _ _ _ h.seen old now h.items still k g
 
     module _ (b : ℕ) (rest : Text) (g : (room : ℕ) → IsRoomOf now.rest room → byte_item (suc room) now.rest ≡ got b rest) where
-      pub no_comma_behind : (e : Error) → IsMemoryOr (past_item 93 rest ≡ None) e → (room : ℕ) → IsRoomOf old.rest room → IsFaultOf (class_of e) (read_bytes_from (suc room) [] old.gap old.rest)
+      pub no_comma_behind : (e : Error) → IsMemoryOr (past_item 93 rest ≡ None) e → (room : ℕ) → IsRoomOf old.rest room
+          → IsFaultOf (class_of e) (read_bytes_from (suc room) [] old.gap old.rest)
       no_comma_behind = comma_fails _ _ _ _ _ _ _ _ h.seen old now h.items still b rest g
 
-      pub byte_more : (more : List ℕ) (next : Place) → more ≡ bs ++ b ∷ [] → past_item 93 rest ≡ Some (next.gap, next.rest) → length next.rest ≤ length now.rest → BytesRead terms more old next
-      byte_more more next m c shorter = record { seen = b ∷ h.seen; in_turn = one_more_byte h.seen b bs more h.in_turn m; items = one_more _ _ _ _ _ _ _ _ h.seen old now h.items still b rest g next c shorter }
+      pub byte_more : (more : List ℕ) (next : Place) → more ≡ bs ++ b ∷ [] → past_item 93 rest ≡ Some (next.gap, next.rest) → length next.rest ≤ length now.rest
+          → BytesRead terms more old next
+      byte_more more next m c shorter = record {
+        seen = b ∷ h.seen;
+        in_turn = one_more_byte h.seen b bs more h.in_turn m;
+        items = one_more _ _ _ _ _ _ _ _ h.seen old now h.items still b rest g next c shorter;
+      }
 
-  pub bytes_all : is_at 93 now.rest ≡ true → (room : ℕ) → IsRoomOf old.rest room → (u : Text) × (now.rest ≡ 93 ∷ u) × (read_bytes_from (suc room) [] old.gap old.rest ≡ given (bytes_data bs) u)
-  bytes_all over room r = let b = at_mark 93 now.rest over in (b.0, b.1, items_over _ _ _ _ _ _ _ _ h.seen old now h.items b.0 b.1 room r ∙ ap (λ xs. given (bytes_data xs) b.0) h.in_turn)
+  pub bytes_all : is_at 93 now.rest ≡ true → (room : ℕ) → IsRoomOf old.rest room
+      → (u : Text) × (now.rest ≡ 93 ∷ u) × (read_bytes_from (suc room) [] old.gap old.rest ≡ given (bytes_data bs) u)
+  bytes_all over room r = let b = at_mark 93 now.rest over in
+      (b.0, b.1, items_over _ _ _ _ _ _ _ _ h.seen old now h.items b.0 b.1 room r ∙ ap (λ xs. given (bytes_data xs) b.0) h.in_turn)
 
 -- ---- a list whole
 
@@ -121,7 +133,8 @@ bytes_inside k = read_bytes_from k []
 pub list_opened : (room : ℕ) (s u : Text) → s ≡ 91 ∷ u → Opening bytes_inside u (read_bytes room false s) room
 list_opened = bytes_opened
 
-module _ (bs : Vec ℕ Global) (rest end : Text) (answer : Got plain.Data) (h : (u : Text) × (rest ≡ 93 ∷ u) × (answer ≡ given (bytes_data bs.items) u)) (over : rest ≡ 93 ∷ end) where
+module _ (bs : Vec ℕ Global) (rest end : Text) (answer : Got plain.Data) (h : (u : Text) × (rest ≡ 93 ∷ u) × (answer ≡ given (bytes_data bs.items) u))
+    (over : rest ≡ 93 ∷ end) where
   pub list_value : answer ≡ got (data_view (data_.Bytes (parsed.Allocated bs))) end
   list_value = let both : 93 ∷ h.0 ≡ 93 ∷ end = sym h.1 ∙ over in let same : h.0 ≡ end = cc in h.2 ∙ ap₂ got (sym (view-bytes (parsed.Allocated bs))) same
 
@@ -131,7 +144,8 @@ pub byte_string_begins : (s : Text) (result : Result Data Error) → begins_byte
 byte_string_begins s result e f = absurd (let no = (or_parts (is_at left_bracket s) (begins_byte_string s) f).1 in cc)
 
 pub list_begins : (s rest : Text) (result : Result Data Error) → s ≡ left_bracket ∷ rest → ExpectsBytes s result
-list_begins s rest result e f = absurd (let no : is_at left_bracket s ≡ false = (or_parts (is_at left_bracket s) (begins_byte_string s) f).0 in let is : is_at left_bracket s ≡ true = ap (is_at left_bracket) e in cc)
+list_begins s rest result e f = absurd (let no : is_at left_bracket s ≡ false = (or_parts (is_at left_bracket s) (begins_byte_string s) f).0 in
+    let is : is_at left_bracket s ≡ true = ap (is_at left_bracket) e in cc)
 
 pub no_byte_string : (s : Text) → begins_byte_string s ≡ false → read_quoted s ≡ failed bad
 unfolding byte_string

@@ -1,5 +1,6 @@
 -- What stands in a value and in its brackets, beside the steps of the code.
-use Rattle.std.proofs.Common.{◌≡◌, ℕ, suc, ◌==◌, Bool, true, false, cond, List, [], ◌∷◌, length, Option, Some, None, Result, Ok, Err, refl, sym, ap, subst, ◌∙◌, arith}
+use Rattle.std.proofs.Common.{◌≡◌, ℕ, suc, ◌==◌, Bool, true, false, cond, List, [], ◌∷◌, length, Option, Some, None, Result, Ok, Err, refl, sym, ap, subst, ◌∙◌}
+use Rattle.std.proofs.Common.{arith}
 use Rattle.ron_spec_words.specs.Characters.{Text}
 use Rattle.ron_spec_words.specs.Gap.{skip}
 use Rattle.ron_spec_words.specs.Reader.{deep, bad, Got, got, failed, meant, mark, opt_comma, and_then}
@@ -31,17 +32,24 @@ use Rattle.ron_de_steps.proofs.ErrorLemmas.{memory_or_more, is_fault, fault_of}
 -- ---- a level deeper
 
 -- what is said of the value, in each room that the limit leaves to it, is said of what is read below
-pub below_said : (terms inner : Terms) → IsDeeper terms inner → (j : ℕ) (place : Place) (room : ℕ) → IsRoom terms.limit (suc (enough terms.schema false j (length place.rest))) room
-    → (P : Got plain.Data → Type 0) → ((n : ℕ) → IsRoom inner.limit (enough inner.schema false j (length place.rest)) n → P (read inner.extensions inner.schema n false j place.gap place.rest)) → P (read_below terms.extensions terms.schema room j place.gap place.rest)
+pub below_said : (terms inner : Terms) → IsDeeper terms inner → (j : ℕ) (place : Place) (room : ℕ)
+    → IsRoom terms.limit (suc (enough terms.schema false j (length place.rest))) room
+    → (P : Got plain.Data → Type 0) → ((n : ℕ) → IsRoom inner.limit (enough inner.schema false j (length place.rest)) n
+    → P (read inner.extensions inner.schema n false j place.gap place.rest)) → P (read_below terms.extensions terms.schema room j place.gap place.rest)
 below_said terms inner d j place room r P g =
-    let there : RoomBelow inner.limit (enough terms.schema false j (length place.rest)) room = room_below terms.limit inner.limit _ _ room d.2 r (omega arith) in
+    let there : RoomBelow inner.limit (enough terms.schema false j (length place.rest)) room =
+    room_below terms.limit inner.limit _ _ room d.2 r (omega arith) in
     let n = there.left in
     let h = g n (subst (λ (s : List Shape). IsRoom inner.limit (enough s false j (length place.rest)) n) (sym d.1) there.is_room) in
-    let is : read_below terms.extensions terms.schema room j place.gap place.rest ≡ read terms.extensions terms.schema n false j place.gap place.rest = ap (λ k. read_below terms.extensions terms.schema k j place.gap place.rest) there.is ∙ below_here terms.extensions terms.schema n j place.gap place.rest in
-    subst P (sym is) (subst (λ (s : List Shape). P (read terms.extensions s n false j place.gap place.rest)) d.1 (subst (λ (x : Extensions). P (read x inner.schema n false j place.gap place.rest)) d.0 h))
+    let is : read_below terms.extensions terms.schema room j place.gap place.rest ≡ read terms.extensions terms.schema n false j place.gap place.rest =
+    ap (λ k. read_below terms.extensions terms.schema k j place.gap place.rest) there.is ∙ below_here terms.extensions terms.schema n j place.gap place.rest in
+    subst P (sym is) (subst (λ (s : List Shape). P (read terms.extensions s n false j place.gap place.rest)) d.1
+    (subst (λ (x : Extensions). P (read x inner.schema n false j place.gap place.rest)) d.0 h))
 
-pub reads_below : (terms inner : Terms) → IsDeeper terms inner → (j : ℕ) (place : Place) (room : ℕ) → IsRoom terms.limit (suc (enough terms.schema false j (length place.rest))) room
-    → (result : Result Data Error) (rest : Text) → ReadsValue inner j place result rest → Reads data_view result (read_below terms.extensions terms.schema room j place.gap place.rest) rest
+pub reads_below : (terms inner : Terms) → IsDeeper terms inner → (j : ℕ) (place : Place) (room : ℕ)
+    → IsRoom terms.limit (suc (enough terms.schema false j (length place.rest))) room
+    → (result : Result Data Error) (rest : Text) → ReadsValue inner j place result rest
+    → Reads data_view result (read_below terms.extensions terms.schema room j place.gap place.rest) rest
 reads_below terms inner d j place room r (Ok v) rest h = below_said terms inner d j place room r (λ o. o ≡ got (data_view v) rest) h
 reads_below terms inner d j place room r (Err e) rest h = below_said terms inner d j place room r (IsFaultOf (class_of e)) h
 
@@ -72,7 +80,8 @@ bracket d (c ∷ s) = go (c == 41) refl
     go false e = rw e refl
 
 -- the closing bracket behind what was read
-pub bracketed_at : (d : plain.Data) (rest : Text) → and_then (got d rest) (λ d _. mark 41 d) ≡ ends_at d (cond (is_at 47 (skip rest)) None (behind_mark 41 (skip rest)))
+pub bracketed_at : (d : plain.Data) (rest : Text)
+    → and_then (got d rest) (λ d _. mark 41 d) ≡ ends_at d (cond (is_at 47 (skip rest)) None (behind_mark 41 (skip rest)))
 bracketed_at d rest = go (is_at 47 (skip rest)) refl
   where
     go : (b : Bool) → is_at 47 (skip rest) ≡ b → and_then (got d rest) (λ d _. mark 41 d) ≡ ends_at d (cond b None (behind_mark 41 (skip rest)))
@@ -102,14 +111,17 @@ pub closed_fault : (k : ErrorClass) (o whole : Got plain.Data) → whole ≡ clo
 closed_fault k o whole w h = fault_of k o whole (λ fault e. w ∙ ap closed e) h
 
 -- no end is found behind it
-pub not_closed : (o whole : Got plain.Data) (d : plain.Data) (rest : Text) → whole ≡ closed o → o ≡ got d rest → (e : Error) → IsMemoryOr (past_end rest ≡ None) e → IsFaultOf (class_of e) whole
+pub not_closed : (o whole : Got plain.Data) (d : plain.Data) (rest : Text) → whole ≡ closed o → o ≡ got d rest → (e : Error)
+    → IsMemoryOr (past_end rest ≡ None) e → IsFaultOf (class_of e) whole
 not_closed o whole d rest w g e h = is_fault (class_of e) whole (memory_or_more e (λ n. w ∙ ap closed g ∙ closed_at d rest ∙ ap (ends_at d) n) h)
 
-pub closed_value : (o whole : Got plain.Data) (d : plain.Data) (rest end : Text) → whole ≡ closed o → o ≡ got d rest → past_end rest ≡ Some end → whole ≡ got d end
+pub closed_value : (o whole : Got plain.Data) (d : plain.Data) (rest end : Text) → whole ≡ closed o → o ≡ got d rest → past_end rest ≡ Some end
+    → whole ≡ got d end
 closed_value o whole d rest end w g e = w ∙ ap closed g ∙ closed_at d rest ∙ ap (ends_at d) e
 
 -- ---- what is made of a value
 
-pub made_of : (f : plain.Data → plain.Data) (result : Result Data Error) (answer whole : Got plain.Data) (rest : Text) → whole ≡ meant answer (λ d. Some (f d)) → Reads data_view result answer rest → Reads (λ d. f (data_view d)) result whole rest
+pub made_of : (f : plain.Data → plain.Data) (result : Result Data Error) (answer whole : Got plain.Data) (rest : Text) → whole ≡ meant answer (λ d. Some (f d))
+    → Reads data_view result answer rest → Reads (λ d. f (data_view d)) result whole rest
 made_of f (Ok v) answer whole rest w h = w ∙ ap (λ o. meant o (λ d. Some (f d))) h
 made_of f (Err e) answer whole rest w h = fault_of (class_of e) answer whole (λ fault k. w ∙ ap (λ o. meant o (λ d. Some (f d))) k) h

@@ -27,23 +27,32 @@ module _ (inside : ℕ → Text → Text → Got plain.Data) (u : Text) (answer 
     behind_gap = o ∙ after_other (λ gap. needs 1 room (inside room gap)) u no_slash
 
     pub group_deep : room ≡ 0 → answer ≡ failed deep
-    group_deep e = let level : needs 1 room (inside room (gap_of u)) (skip u) ≡ needs 1 0 (inside 0 (gap_of u)) (skip u) = ap (λ k. needs 1 k (inside k (gap_of u)) (skip u)) e in behind_gap ∙ level
+    group_deep e = let level : needs 1 room (inside room (gap_of u)) (skip u) ≡ needs 1 0 (inside 0 (gap_of u)) (skip u) =
+        ap (λ k. needs 1 k (inside k (gap_of u)) (skip u)) e in
+        behind_gap ∙ level
 
     group_read : (left : ℕ) (gap rest : Text) → room ≡ suc left → gap ≡ gap_of u → rest ≡ skip u → answer ≡ inside (suc left) gap rest
     group_read left gap rest e g r =
-        let level : needs 1 room (inside room (gap_of u)) (skip u) ≡ needs 1 (suc left) (inside (suc left) (gap_of u)) (skip u) = ap (λ k. needs 1 k (inside k (gap_of u)) (skip u)) e in
-        let left_over : needs 1 (suc left) (inside (suc left) (gap_of u)) (skip u) ≡ inside (suc left) (gap_of u) (skip u) = rw (le-leb 1 (suc left) (omega arith)) refl in
+        let level : needs 1 room (inside room (gap_of u)) (skip u) ≡ needs 1 (suc left) (inside (suc left) (gap_of u)) (skip u) =
+        ap (λ k. needs 1 k (inside k (gap_of u)) (skip u)) e in
+        let left_over : needs 1 (suc left) (inside (suc left) (gap_of u)) (skip u) ≡ inside (suc left) (gap_of u) (skip u) =
+        rw (le-leb 1 (suc left) (omega arith)) refl in
         let place : inside (suc left) (gap_of u) (skip u) ≡ inside (suc left) gap rest = ap₂ (inside (suc left)) (sym g) (sym r) in
         behind_gap ∙ level ∙ left_over ∙ place
 
     -- what is said of the inside, in each room that the limit leaves to it, is said of the group
-    module _ (terms inner : Terms) (d : IsDeeper terms inner) (place : Place) (g : place.gap ≡ gap_of u) (w : place.rest ≡ skip u) (levels : ℕ) (le : enough_for_items terms.schema (length place.rest) + 1 ≤ levels) (r : IsRoom terms.limit levels room) where
-      pub group_said : (P : Got plain.Data → Type 0) → ((k : ℕ) → IsRoom inner.limit (enough_for_items inner.schema (length place.rest)) k → P (inside (suc k) place.gap place.rest)) → P answer
+    module _ (terms inner : Terms) (d : IsDeeper terms inner) (place : Place) (g : place.gap ≡ gap_of u) (w : place.rest ≡ skip u) (levels : ℕ)
+        (le : enough_for_items terms.schema (length place.rest) + 1 ≤ levels) (r : IsRoom terms.limit levels room) where
+      pub group_said : (P : Got plain.Data → Type 0)
+          → ((k : ℕ) → IsRoom inner.limit (enough_for_items inner.schema (length place.rest)) k → P (inside (suc k) place.gap place.rest)) → P answer
       group_said P h =
           let below = room_below terms.limit inner.limit _ _ room d.2 r le in
-          subst P (sym (group_read below.left place.gap place.rest below.is g w)) (h below.left (subst (λ (s : List Shape). IsRoom inner.limit (enough_for_items s (length place.rest)) below.left) (sym d.1) below.is_room))
+          subst P (sym (group_read below.left place.gap place.rest below.is g w))
+          (h below.left (subst (λ (s : List Shape). IsRoom inner.limit (enough_for_items s (length place.rest)) below.left) (sym d.1) below.is_room))
 
     -- likewise of the group of a value
-    module _ (terms inner : Terms) (d : IsDeeper terms inner) (i : ℕ) (old place : Place) (g : place.gap ≡ gap_of u) (w : place.rest ≡ skip u) (shorter : length place.rest < length old.rest) (r : IsRoom terms.limit (enough terms.schema false i (length old.rest)) room) where
-      pub group_inside : (P : Got plain.Data → Type 0) → ((k : ℕ) → IsRoom inner.limit (enough_for_items inner.schema (length place.rest)) k → P (inside (suc k) place.gap place.rest)) → P answer
+    module _ (terms inner : Terms) (d : IsDeeper terms inner) (i : ℕ) (old place : Place) (g : place.gap ≡ gap_of u) (w : place.rest ≡ skip u)
+        (shorter : length place.rest < length old.rest) (r : IsRoom terms.limit (enough terms.schema false i (length old.rest)) room) where
+      pub group_inside : (P : Got plain.Data → Type 0)
+          → ((k : ℕ) → IsRoom inner.limit (enough_for_items inner.schema (length place.rest)) k → P (inside (suc k) place.gap place.rest)) → P answer
       group_inside = group_said terms inner d place g w _ (items_inside terms.schema i (length place.rest) (length old.rest) shorter) r

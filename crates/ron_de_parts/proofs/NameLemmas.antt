@@ -44,14 +44,18 @@ past_is required n s = first (is_at 40 s) refl
     bracket true e = refl
     bracket false e = let m = at_mark 40 s e in rw (m.1, skip-bracket m.0) refl
 
-    first : (b : Bool) → is_at 40 s ≡ b → cond b (cond required None (Some s)) (behind_gap (named n s)) ≡ behind (cond b (cond required None (Some s)) (left_by (named n s)))
+    first : (b : Bool) → is_at 40 s ≡ b
+        → cond b (cond required None (Some s)) (behind_gap (named n s)) ≡ behind (cond b (cond required None (Some s)) (left_by (named n s)))
     first true e = bracket required e
     first false e = of_name (named n s)
 
 -- the gap behind a name is gone past, or a slash stands behind it
-pub name_gap : (required : Bool) (n s t new : Text) {A : Type 0} (result : Result A Error) → behind_name required n s ≡ Some t → MatchResult result (λ _. is_at 47 (skip t) ≡ false) (λ _. is_at 47 (skip t) ≡ true) → OnOk result (new ≡ skip t) → IfErr result IsOfText → GoesTo (past_name required n s) result new
+pub name_gap : (required : Bool) (n s t new : Text) {A : Type 0} (result : Result A Error) → behind_name required n s ≡ Some t
+    → MatchResult result (λ _. is_at 47 (skip t) ≡ false) (λ _. is_at 47 (skip t) ≡ true) → OnOk result (new ≡ skip t) → IfErr result IsOfText
+    → GoesTo (past_name required n s) result new
 name_gap required n s t new (Ok u) e slash is fault = past_is required n s ∙ ap behind e ∙ ap (λ b. cond b None (Some (skip t))) slash ∙ ap Some (sym is)
-name_gap required n s t new (Err code) e slash is fault = text_and code fault.0 (past_is required n s ∙ ap behind e ∙ ap (λ b. cond b None (Some (skip t))) slash)
+name_gap required n s t new (Err code) e slash is fault =
+    text_and code fault.0 (past_is required n s ∙ ap behind e ∙ ap (λ b. cond b None (Some (skip t))) slash)
 
 -- no such name stands here
 pub unnamed : (n s : Text) → left_by (named n s) ≡ None → named n s ≡ failed bad
@@ -81,15 +85,18 @@ module _ {A : Type 0} (g : Reader A) (required : Bool) (n s : Text) where
       of_name (failed deep) calm = absurd (calm refl)
       of_name (failed bad) calm = refl
 
-      first : (b : Bool) → cond b (without_name required g s) (in_sequence (named n) (λ _ _. g) s) ≡ at_place g (cond b (cond required None (Some s)) (behind_gap (named n s)))
+      first : (b : Bool)
+          → cond b (without_name required g s) (in_sequence (named n) (λ _ _. g) s) ≡ at_place g (cond b (cond required None (Some s)) (behind_gap (named n s)))
       first true = optional required
       first false = of_name (named n s) ((word_named n).calm s)
 
-  pub named_directly : ((t : Text) → is_at 40 t ≡ false → g t ≡ failed bad) → pick (is_at 40) (without_name required g) (in_sequence (named n) (λ _ gap. no_gap gap g)) s ≡ at_place g (behind_name required n s)
+  pub named_directly : ((t : Text) → is_at 40 t ≡ false → g t ≡ failed bad)
+      → pick (is_at 40) (without_name required g) (in_sequence (named n) (λ _ gap. no_gap gap g)) s ≡ at_place g (behind_name required n s)
   named_directly only = first (is_at 40 s)
     where
       behind_nothing : (rest gap : Text) → gap_of rest ≡ gap → is_at 40 rest ≡ false → no_gap gap g (skip rest) ≡ failed bad
-      behind_nothing rest [] e h = let same : rest ≡ skip rest = (cut rest).split ∙ ap (λ z. z ++ skip rest) e in only (skip rest) (ap (is_at 40) (sym same) ∙ h)
+      behind_nothing rest [] e h = let same : rest ≡ skip rest = (cut rest).split ∙ ap (λ z. z ++ skip rest) e in
+          only (skip rest) (ap (is_at 40) (sym same) ∙ h)
       behind_nothing rest (c ∷ gap) e h = refl
 
       elsewhere : (rest : Text) → is_at 40 rest ≡ false → (b : Bool) → is_at 47 (skip rest) ≡ b → after_gap (λ gap. no_gap gap g) rest ≡ failed bad
@@ -100,7 +107,8 @@ module _ {A : Type 0} (g : Reader A) (required : Bool) (n s : Text) where
       at_bracket u =
           let longest : LongGap [] (40 ∷ u) = record { is_gap = none; longest = skip-bracket u } in
           let no_slash : is_at 47 (skip (40 ∷ u)) ≡ false = ap (is_at 47) (skip-bracket u) in
-          after_other (λ gap. no_gap gap g) (40 ∷ u) no_slash ∙ ap (λ gap. no_gap gap g (skip (40 ∷ u))) (gap_of-append [] (40 ∷ u) longest) ∙ ap g (skip-bracket u)
+          after_other (λ gap. no_gap gap g) (40 ∷ u) no_slash ∙ ap (λ gap. no_gap gap g (skip (40 ∷ u))) (gap_of-append [] (40 ∷ u) longest)
+          ∙ ap g (skip-bracket u)
 
       either : (rest : Text) (b : Bool) → is_at 40 rest ≡ b → after_gap (λ gap. no_gap gap g) rest ≡ g rest
       either rest true e = let m = at_mark 40 rest e in rw m.1 (at_bracket m.0)
@@ -111,6 +119,7 @@ module _ {A : Type 0} (g : Reader A) (required : Bool) (n s : Text) where
       of_name (failed deep) calm = absurd (calm refl)
       of_name (failed bad) calm = refl
 
-      first : (b : Bool) → cond b (without_name required g s) (in_sequence (named n) (λ _ gap. no_gap gap g) s) ≡ at_place g (cond b (cond required None (Some s)) (left_by (named n s)))
+      first : (b : Bool) → cond b (without_name required g s) (in_sequence (named n) (λ _ gap. no_gap gap g) s)
+          ≡ at_place g (cond b (cond required None (Some s)) (left_by (named n s)))
       first true = optional required
       first false = of_name (named n s) ((word_named n).calm s)

@@ -10,7 +10,8 @@ use Rattle.ron_spec_words.specs.Name.{named}
 use Rattle.ron_value_number.specs.Width.{fits}
 use Rattle.ron_spec_grammar.specs.Data.{Data, int_of, value_of, struct_of, Fields}
 use Rattle.ron_spec_grammar.specs.Schema.{Shape, Field, int, any_value}
-use Rattle.ron_spec_grammar.specs.Shapes.Range.{fill, fill_field, filled_one, filled_two, spans, reaches, starts, is_start, is_end, range_fields, range_data, full_data, read_range}
+use Rattle.ron_spec_grammar.specs.Shapes.Range.{fill, fill_field, filled_one, filled_two, spans, reaches, starts, is_start, is_end, range_fields, range_data}
+use Rattle.ron_spec_grammar.specs.Shapes.Range.{full_data, read_range}
 use Rattle.ron_spec_grammar.specs.Rule.{without_name}
 use Rattle.ron_spec_grammar.specs.Shapes.Unit.{empty_brackets}
 use Rattle.ron_spec_grammar.specs.Shapes.UnitStruct.{unit_struct_data, read_unit_struct}
@@ -49,8 +50,10 @@ module _ (schema : List Shape) (name : Text) where
   large_fields (f ∷ g ∷ []) (range None closed None) h = refl
   large_fields (f ∷ g ∷ []) (range (Some a) closed None) h = refl
   large_fields (f ∷ g ∷ []) (range None closed (Some b)) h = refl
-  large_fields (f ∷ g ∷ []) (range (Some a) closed (Some b)) (inl h) = if_none (spans closed name && (is_start f && is_end closed g)) _ (ap (λ o. filled_two f o g (fill_field schema g b)) (no_fill _ a h))
-  large_fields (f ∷ g ∷ []) (range (Some a) closed (Some b)) (inr h) = if_none (spans closed name && (is_start f && is_end closed g)) _ (no_second f _ g _ (no_fill _ b h))
+  large_fields (f ∷ g ∷ []) (range (Some a) closed (Some b)) (inl h) =
+      if_none (spans closed name && (is_start f && is_end closed g)) _ (ap (λ o. filled_two f o g (fill_field schema g b)) (no_fill _ a h))
+  large_fields (f ∷ g ∷ []) (range (Some a) closed (Some b)) (inr h) =
+      if_none (spans closed name && (is_start f && is_end closed g)) _ (no_second f _ g _ (no_fill _ b h))
   large_fields (f ∷ g ∷ k ∷ fields) i h = refl
 
   -- ---- what is read, by what the cursor's call answers
@@ -60,7 +63,8 @@ module _ (schema : List Shape) (name : Text) where
   refuses_range fields (failed f) h = ap failed h
 
   module _ (fields : List Field) (answer : Got Interval) (i : Interval) (rest : Text) (e : answer ≡ got i rest) where
-    pub range_read : (found : Fields) → Some found ≡ range_fields schema name fields i → meant answer (range_data schema name fields) ≡ got (struct_of name found) rest
+    pub range_read : (found : Fields) → Some found ≡ range_fields schema name fields i
+        → meant answer (range_data schema name fields) ≡ got (struct_of name found) rest
     range_read found k = ap (λ o. meant o (range_data schema name fields)) e ∙ rw (← k) refl
 
     pub range_none : None ≡ range_fields schema name fields i → meant answer (range_data schema name fields) ≡ failed bad
@@ -78,10 +82,13 @@ module _ (schema : List Shape) (name : Text) where
         go (f ∷ g ∷ []) h = refl
         go (f ∷ g ∷ k ∷ fields) h = refl
 
-    pub two : (f g : FieldShape) → fields ≡ f ∷ g ∷ [] → (a b : Numeral) → range_fields schema name (map field_view fields) (range (Some a) closed (Some b)) ≡ cond (spans closed name && (is_start (field_view f) && is_end closed (field_view g))) (filled_two (field_view f) (fill_field schema (field_view f) a) (field_view g) (fill_field schema (field_view g) b)) None
+    pub two : (f g : FieldShape) → fields ≡ f ∷ g ∷ [] → (a b : Numeral) → range_fields schema name (map field_view fields) (range (Some a) closed (Some b))
+        ≡ cond (spans closed name && (is_start (field_view f) && is_end closed (field_view g)))
+        (filled_two (field_view f) (fill_field schema (field_view f) a) (field_view g) (fill_field schema (field_view g) b)) None
     two f g e a b = ap (λ fs. range_fields schema name (map field_view fs) (range (Some a) closed (Some b))) e
 
 -- ---- unit structs
 
 pub full_is : (required : Bool) (name s : Text) → opens_interval s ≡ true → read_unit_struct required name false s ≡ meant (number_or_range s) (full_data name)
-full_is required name s f = ap (λ b. cond b (read_range false (full_data name) s) (pick (is_at left_parenthesis) (without_name required (means empty_brackets (unit_struct_data name))) (means (named name) (unit_struct_data name)) s)) f
+full_is required name s f = ap (λ b. cond b (read_range false (full_data name) s)
+    (pick (is_at left_parenthesis) (without_name required (means empty_brackets (unit_struct_data name))) (means (named name) (unit_struct_data name)) s)) f

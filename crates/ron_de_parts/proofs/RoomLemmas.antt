@@ -12,7 +12,8 @@ use Rattle.ron_de_parts.specs.Room.{IsRoom, enough_for_items, enough_for_group}
 -- behind a bracket
 pub items_inside : (schema : List Shape) (i m n : ℕ) → m < n → enough_for_items schema m + 1 ≤ enough schema false i n
 unfolding enough enough_for_items
-items_inside schema i m n lt = let k : (m + 1) * step schema ≤ n * step schema = mul-le-mul_right (step schema) (omega arith) in omega (arith, k, step_is schema)
+items_inside schema i m n lt = let k : (m + 1) * step schema ≤ n * step schema = mul-le-mul_right (step schema) (omega arith) in
+    omega (arith, k, step_is schema)
 
 -- an item, one level further down
 pub item_within : (schema : List Shape) (j m n : ℕ) → m ≤ n → enough schema false j m + 1 ≤ enough_for_items schema n
@@ -30,7 +31,8 @@ pub item_falls : (schema inner : List Shape) (j m n : ℕ) → inner ≡ schema 
 item_falls schema inner j m n e lt = rw e (omega (arith, item_within schema j m n (omega (arith, lt))))
 
 -- where an item may stand a level deeper, two levels are left to its list
-pub levels_left : (limit inner : Option ℕ) (schema : List Shape) (n room : ℕ) → one_deeper limit ≡ Some inner → IsRoom limit (enough_for_items schema n) room → 2 ≤ suc room
+pub levels_left : (limit inner : Option ℕ) (schema : List Shape) (n room : ℕ) → one_deeper limit ≡ Some inner → IsRoom limit (enough_for_items schema n) room
+    → 2 ≤ suc room
 unfolding enough_for_items
 levels_left limit inner schema n room e r = let k = room_below limit inner 0 (enough_for_items schema n) room e r (omega arith) in omega (arith, k.is)
 
@@ -39,7 +41,8 @@ levels_left limit inner schema n room e r = let k = room_below limit inner 0 (en
 -- the items within
 pub items_in_group : (schema : List Shape) (m n : ℕ) → m < n → enough_for_items schema m + 1 ≤ enough_for_group schema n
 unfolding enough_for_items enough_for_group
-items_in_group schema m n lt = let k : (m + 1) * step schema ≤ n * step schema = mul-le-mul_right (step schema) (omega arith) in omega (arith, k, step_is schema)
+items_in_group schema m n lt = let k : (m + 1) * step schema ≤ n * step schema = mul-le-mul_right (step schema) (omega arith) in
+    omega (arith, k, step_is schema)
 
 pub items_fall : (schema inner : List Shape) (m n : ℕ) → inner ≡ schema → m < n → 4 * enough_for_items inner m + 1 < 4 * enough_for_group schema n + 1
 items_fall schema inner m n e lt = rw e (omega (arith, items_in_group schema m n lt))
@@ -47,7 +50,8 @@ items_fall schema inner m n e lt = rw e (omega (arith, items_in_group schema m n
 -- one value within
 pub content_in_group : (schema : List Shape) (j m n : ℕ) → m < n → enough schema false j m + 2 ≤ enough_for_group schema n
 unfolding enough enough_for_group
-content_in_group schema j m n lt = let k : (m + 1) * step schema ≤ n * step schema = mul-le-mul_right (step schema) (omega arith) in omega (arith, k, step_is schema, rank_at_most schema j)
+content_in_group schema j m n lt = let k : (m + 1) * step schema ≤ n * step schema = mul-le-mul_right (step schema) (omega arith) in
+    omega (arith, k, step_is schema, rank_at_most schema j)
 
 -- the brackets of a value, here or further on
 pub group_of_value : (schema : List Shape) (i m n : ℕ) → m ≤ n → enough_for_group schema m + 1 ≤ enough schema false i n
@@ -102,5 +106,6 @@ pub value_within_bare : (schema : List Shape) (i n : ℕ) → enough schema fals
 unfolding enough
 value_within_bare schema i n = omega arith
 
-pub room_of_value : (limit : Option ℕ) (schema : List Shape) (i n room : ℕ) → IsRoom limit (enough schema true i n) room → IsRoom limit (enough schema false i n) room
+pub room_of_value : (limit : Option ℕ) (schema : List Shape) (i n room : ℕ) → IsRoom limit (enough schema true i n) room
+    → IsRoom limit (enough schema false i n) room
 room_of_value limit schema i n room r = room_less limit _ _ room r (omega (arith, value_within_bare schema i n))

@@ -1,5 +1,6 @@
 -- What a name in a list of fields stands for, by the index that code finds.
-use Rattle.std.proofs.Common.{◌≡◌, ℕ, ◌<◌, Bool, true, false, not, ◌&&◌, cond, List, [], map, length, Option, Some, None, option_map, slice_get, get_or, IfSome, refl, sym, subst, ap, ap₂, ◌∙◌, arith}
+use Rattle.std.proofs.Common.{◌≡◌, ℕ, ◌<◌, Bool, true, false, not, ◌&&◌, cond, List, [], map, length, Option, Some, None, option_map, slice_get, get_or, IfSome}
+use Rattle.std.proofs.Common.{refl, sym, subst, ap, ap₂, ◌∙◌, arith}
 use Rattle.std.specs.List.{list_any, position}
 use Rattle.std.proofs.lemmas.List.{length-map}
 use Rattle.std.proofs.lemmas.Option.{slice_get-get_or}
@@ -23,7 +24,9 @@ use Rattle.ron_de_parts.proofs.SlotLemmas.{found_at, no_new_field, taken, empty}
 
 module _ (list : FieldList) (seen : List Item) (name : Text) where
   target_there : list_any (is_called name) list.fields ≡ true → target list seen name ≡ option_map known (new_field list.fields seen name)
-  target_there h = let e : (list.skips_unknown && not (list_any (is_called name) list.fields)) ≡ false = ap (λ b. list.skips_unknown && not b) h ∙ and-false list.skips_unknown in ap (λ b. cond b (Some (unknown name)) (option_map known (new_field list.fields seen name))) e
+  target_there h = let e : (list.skips_unknown && not (list_any (is_called name) list.fields)) ≡ false =
+      ap (λ b. list.skips_unknown && not b) h ∙ and-false list.skips_unknown in
+      ap (λ b. cond b (Some (unknown name)) (option_map known (new_field list.fields seen name))) e
 
   target_kept : list.skips_unknown ≡ false → target list seen name ≡ option_map known (new_field list.fields seen name)
   target_kept h = ap (λ b. cond (b && not (list_any (is_called name) list.fields)) (Some (unknown name)) (option_map known (new_field list.fields seen name))) h
@@ -34,7 +37,8 @@ module _ (list : FieldList) (seen : List Item) (name : Text) where
 -- ---- what code finds
 
 -- an index of code's list is one of the list
-pub in_view : (fields : List FieldShape) (slots : Slots) (index : Option ℕ) → IfSome index (IsFree fields slots) → IfSome index (λ i. i < length (map field_view fields))
+pub in_view : (fields : List FieldShape) (slots : Slots) (index : Option ℕ) → IfSome index (IsFree fields slots)
+    → IfSome index (λ i. i < length (map field_view fields))
 in_view fields slots None free = tt
 in_view fields slots (Some i) free = omega (arith, free.0, length-map fields field_view)
 
@@ -59,10 +63,12 @@ module _ (name : Text) (list : code.FieldList) (seen : List Item) (fields : List
     no_target h = target_kept (list_view list) seen name h ∙ ap (option_map known) (no_new_field name list.fields.items seen none_here)
 
     pub unknown_target : list.skip_unknown ≡ true → target (list_view list) seen name ≡ Some (unknown name)
-    unknown_target h = target_skipped (list_view list) seen name h (none_any (is_called name) (map field_view list.fields.items) (found_at name list.fields.items None none_here))
+    unknown_target h = target_skipped (list_view list) seen name h
+        (none_any (is_called name) (map field_view list.fields.items) (found_at name list.fields.items None none_here))
 
   -- where one is: the field there, if its slot is empty
-  module _ (index : ℕ) (e : Some index ≡ position (λ f. is_called name (field_view f)) fields) (slots : List (Option Data)) (h : AreSlotsOf (slots_view slots) (map field_view list.fields.items) seen) where
+  module _ (index : ℕ) (e : Some index ≡ position (λ f. is_called name (field_view f)) fields) (slots : List (Option Data))
+      (h : AreSlotsOf (slots_view slots) (map field_view list.fields.items) seen) where
     some_here : Some index ≡ position (λ f. is_called name (field_view f)) list.fields.items
     some_here = e ∙ ap (position (λ (f : FieldShape). is_called name (field_view f))) same
 
@@ -71,12 +77,14 @@ module _ (name : Text) (list : code.FieldList) (seen : List Item) (fields : List
         let found = found_at name list.fields.items (Some index) some_here in
         let lt : index < length (map field_view list.fields.items) = omega (arith, found.0, length-map list.fields.items field_view) in
         let none : Field = field [] 0 in
-        found_any (is_called name) (map field_view list.fields.items) (get_or (map field_view list.fields.items) index none) (found.1 ∙ slice_get-get_or (map field_view list.fields.items) index none lt)
+        found_any (is_called name) (map field_view list.fields.items) (get_or (map field_view list.fields.items) index none)
+        (found.1 ∙ slice_get-get_or (map field_view list.fields.items) index none lt)
 
     pub taken_target : is_filled (slice_get slots index) ≡ true → target (list_view list) seen name ≡ None
     taken_target t = target_there (list_view list) seen name is_there ∙ ap (option_map known) (taken name list.fields.items seen slots index some_here h t)
 
-    pub new_target : is_filled (slice_get slots index) ≡ false → target (list_view list) seen name ≡ option_map known (slice_get (map field_view list.fields.items) index)
+    pub new_target : is_filled (slice_get slots index) ≡ false
+        → target (list_view list) seen name ≡ option_map known (slice_get (map field_view list.fields.items) index)
     new_target t = target_there (list_view list) seen name is_there ∙ ap (option_map known) (empty name list.fields.items seen slots index some_here h t)
 
 -- what is told of a name that no field has

@@ -49,12 +49,14 @@ pub looks_none : (place : Place) → Looks 1 place place
 looks_none place = omega (arith, beyond_no_more place.rest)
 
 -- a mark that is gone past, where it stands
-pub taken_nears : (c : ℕ) (b : Bool) (old new : Place) → IsMark c → MatchBool b (old.rest ≡ c ∷ new.rest) ((is_at c old.rest ≡ false) × (new ≡ old)) → Nears old new
+pub taken_nears : (c : ℕ) (b : Bool) (old new : Place) → IsMark c → MatchBool b (old.rest ≡ c ∷ new.rest) ((is_at c old.rest ≡ false) × (new ≡ old))
+    → Nears old new
 taken_nears c true old new m h = mark_nears c old new m h
 taken_nears c false old new m h = subst (Nears old) (sym h.1) (nears_here old)
 
 -- a front, at twice the rate
-pub front_twice : (front : Text) (b : Bool) (old new : Place) → MatchBool b (old.rest ≡ front ++ new.rest) ((begins_with front old.rest ≡ false) × (new ≡ old)) → GoesOver 1 old new → GoesOver 2 old new
+pub front_twice : (front : Text) (b : Bool) (old new : Place) → MatchBool b (old.rest ≡ front ++ new.rest) ((begins_with front old.rest ≡ false) × (new ≡ old))
+    → GoesOver 1 old new → GoesOver 2 old new
 front_twice front true old new h over = omega (arith, over, size_end front new.rest old.rest h)
 front_twice front false old new h over = omega (arith, over, ap (λ p. bytes_in p.rest) h.1)
 
@@ -65,9 +67,11 @@ none_taken false old new h = subst (Nears old) (sym h) (nears_here old)
 
 -- ---- a field's name, the colon and the gaps around it
 
-module _ (old named before behind new : Place) (n : Text) (e : name old.rest ≡ got n named.rest) (f : before.rest ≡ skip named.rest) (g : before.rest ≡ 58 ∷ behind.rest) (h : new.rest ≡ skip behind.rest) where
+module _ (old named before behind new : Place) (n : Text) (e : name old.rest ≡ got n named.rest) (f : before.rest ≡ skip named.rest)
+    (g : before.rest ≡ 58 ∷ behind.rest) (h : new.rest ≡ skip behind.rest) where
   pub field_enters : new.gap ≡ gap_of behind.rest → Enters old new
-  field_enters k = enters_from old before new (nears_on old named before (name_nears n old named e) (gap_nears named before f)) (mark_enters 58 before behind new mark_colon g k h)
+  field_enters k = enters_from old before new (nears_on old named before (name_nears n old named e) (gap_nears named before f))
+      (mark_enters 58 before behind new mark_colon g k h)
 
   pub field_leads : Leads old.rest new.rest
   field_leads =
@@ -92,14 +96,18 @@ pub leaf_from : {A : Type 0} (old mid : Place) (r : Result A Error) (new : Place
 leaf_from old mid r new e h = subst (λ p. SettlesLeaf p r new) e h
 
 -- a trial, back to its start, and what is reported there
-pub leaf_again : {A : Type 0} (d f : ℕ) → d + f ≤ suc paid_besides → (old start there back new : Place) (e : Error) → Stays old start → Scans d old there → Stays start back → back.turns ≡ there.turns → Scans f back new → SettlesLeaf {A = A} old (Err e) new
-leaf_again d f le old start there back new e s h t same k = leaf_refused (d + f) le old new e (tried_again d f old there back new h (stays_on old start back s t) same k)
+pub leaf_again : {A : Type 0} (d f : ℕ) → d + f ≤ suc paid_besides → (old start there back new : Place) (e : Error) → Stays old start → Scans d old there
+    → Stays start back → back.turns ≡ there.turns → Scans f back new → SettlesLeaf {A = A} old (Err e) new
+leaf_again d f le old start there back new e s h t same k =
+    leaf_refused (d + f) le old new e (tried_again d f old there back new h (stays_on old start back s t) same k)
 
 -- ---- a value of any form, and behind it a step
 
 module _ {A B : Type 0} (bare : Bool) (m : ℕ) (old mid : Place) (a : A) (h : SpendsAny {E = Error} bare m old (Ok a) mid) (new : Place) where
   pub value_open : (e : Error) → Scans 1 mid new → SpendsLeaf {A = B} bare m old (Err e) new
-  value_open e scans = λ k stands. keeps_but paid_besides k (total_before paid_besides k m old) a e mid new (h stands paid_besides k (omega arith)) (scans_behind paid_besides k 1 mid new (omega arith) scans)
+  value_open e scans = λ k stands. keeps_but paid_besides k (total_before paid_besides k m old) a e mid new (h stands paid_besides k (omega arith))
+      (scans_behind paid_besides k 1 mid new (omega arith) scans)
 
   pub value_closed : (b : B) → GoesOver 1 mid new → Nears mid new → SpendsLeaf {E = Error} bare m old (Ok b) new
-  value_closed b over near = λ k stands. then_moves paid_besides k 1 (total_before paid_besides k m old) a mid (Ok b) new (h stands paid_besides k (omega arith)) (omega arith) (moved_so 1 mid new (Ok b) over) near
+  value_closed b over near = λ k stands. then_moves paid_besides k 1 (total_before paid_besides k m old) a mid (Ok b) new
+      (h stands paid_besides k (omega arith)) (omega arith) (moved_so 1 mid new (Ok b) over) near

@@ -48,16 +48,19 @@ untyped_below_deep u room gap s e = ap (λ k. read_any_below u k 1 gap s) e ∙ 
 -- ---- by the terms in force
 
 -- a value that is dropped
-pub skips : (terms : Terms) (place : Place) (v : Value) (rest : Text) → ReadsAny (conditions_of terms) false place (Ok v) rest → SkipsValue terms place (Ok tt) rest
+pub skips : (terms : Terms) (place : Place) (v : Value) (rest : Text) → ReadsAny (conditions_of terms) false place (Ok v) rest
+    → SkipsValue terms place (Ok tt) rest
 skips terms place v rest h = λ room r. (tree_of v, h room r)
 
 -- ---- at an index of the table
 
-untyped_at : (x : Extensions) (schema : List Shape) (room i : ℕ) (before s : Text) → slice_get schema i ≡ Some any_value → read x schema room false i before s ≡ meant (read_any x.unwrap_variant_newtypes room false before s) value_data
+untyped_at : (x : Extensions) (schema : List Shape) (room i : ℕ) (before s : Text) → slice_get schema i ≡ Some any_value
+    → read x schema room false i before s ≡ meant (read_any x.unwrap_variant_newtypes room false before s) value_data
 unfolding read_at
 untyped_at x schema room i before s e = rw e refl
 
-bare_at : (x : Extensions) (schema : List Shape) (room i : ℕ) (before s : Text) → slice_get schema i ≡ Some any_value → read_bare x schema room i before s ≡ bracketed (meant (read_any x.unwrap_variant_newtypes room true before s) value_data)
+bare_at : (x : Extensions) (schema : List Shape) (room i : ℕ) (before s : Text) → slice_get schema i ≡ Some any_value
+    → read_bare x schema room i before s ≡ bracketed (meant (read_any x.unwrap_variant_newtypes room true before s) value_data)
 unfolding read_bare read_at
 bare_at x schema room i before s e = rw e refl
 
@@ -67,23 +70,35 @@ as_data v rest o e = ap (λ o. meant o value_data) e ∙ ap (λ d. got d rest) (
 
 module _ (terms : Terms) (i : ℕ) (at : slice_get terms.schema i ≡ Some any_value) (place : Place) (room : ℕ) where
   -- the room of a shape is enough
-  room_of : (bare : Bool) → IsRoom terms.limit (enough terms.schema bare i (length place.rest)) room → IsRoom terms.limit (enough_for_value bare (length place.rest)) room
+  room_of : (bare : Bool) → IsRoom terms.limit (enough terms.schema bare i (length place.rest)) room
+      → IsRoom terms.limit (enough_for_value bare (length place.rest)) room
   room_of bare r = room_less terms.limit _ _ room r (untyped_is_shape terms.schema bare i (length place.rest))
 
   module _ (r : IsRoom terms.limit (enough terms.schema false i (length place.rest)) room) where
-    pub untyped_fault : (e : Error) (rest : Text) → ReadsAny (conditions_of terms) false place (Err e) rest → IsFaultOf (class_of e) (read terms.extensions terms.schema room false i place.gap place.rest)
-    untyped_fault e rest h = fault_of (class_of e) _ _ (λ fault f. untyped_at terms.extensions terms.schema room i place.gap place.rest at ∙ ap (λ o. meant o value_data) f) (h room (room_of false r))
+    pub untyped_fault : (e : Error) (rest : Text) → ReadsAny (conditions_of terms) false place (Err e) rest
+        → IsFaultOf (class_of e) (read terms.extensions terms.schema room false i place.gap place.rest)
+    untyped_fault e rest h = fault_of (class_of e) _ _
+        (λ fault f. untyped_at terms.extensions terms.schema room i place.gap place.rest at ∙ ap (λ o. meant o value_data) f) (h room (room_of false r))
 
-    pub untyped_read : (v : Value) (rest : Text) → ReadsAny (conditions_of terms) false place (Ok v) rest → read terms.extensions terms.schema room false i place.gap place.rest ≡ got (data_view (data_.Value (Owned v))) rest
+    pub untyped_read : (v : Value) (rest : Text) → ReadsAny (conditions_of terms) false place (Ok v) rest
+        → read terms.extensions terms.schema room false i place.gap place.rest ≡ got (data_view (data_.Value (Owned v))) rest
     untyped_read v rest h = untyped_at terms.extensions terms.schema room i place.gap place.rest at ∙ as_data v rest _ (h room (room_of false r))
 
   module _ (r : IsRoom terms.limit (enough terms.schema true i (length place.rest)) room) where
-    pub bare_untyped_fault : (e : Error) (rest : Text) → ReadsAny (conditions_of terms) true place (Err e) rest → IsFaultOf (class_of e) (read_bare terms.extensions terms.schema room i place.gap place.rest)
-    bare_untyped_fault e rest h = fault_of (class_of e) _ _ (λ fault f. bare_at terms.extensions terms.schema room i place.gap place.rest at ∙ ap (λ o. bracketed (meant o value_data)) f) (h room (room_of true r))
+    pub bare_untyped_fault : (e : Error) (rest : Text) → ReadsAny (conditions_of terms) true place (Err e) rest
+        → IsFaultOf (class_of e) (read_bare terms.extensions terms.schema room i place.gap place.rest)
+    bare_untyped_fault e rest h = fault_of (class_of e) _ _
+        (λ fault f. bare_at terms.extensions terms.schema room i place.gap place.rest at ∙ ap (λ o. bracketed (meant o value_data)) f) (h room (room_of true r))
 
     module _ (v : Value) (rest : Text) (h : ReadsAny (conditions_of terms) true place (Ok v) rest) where
-      pub bare_untyped_open : (e : Error) → IsMemoryOr (past_close 41 rest ≡ None) e → IsFaultOf (class_of e) (read_bare terms.extensions terms.schema room i place.gap place.rest)
-      bare_untyped_open e n = bracket_missing (meant (read_any terms.extensions.unwrap_variant_newtypes room true place.gap place.rest) value_data) _ (data_view (data_.Value (Owned v))) rest (bare_at terms.extensions terms.schema room i place.gap place.rest at) (as_data v rest _ (h room (room_of true r))) e n
+      pub bare_untyped_open : (e : Error) → IsMemoryOr (past_close 41 rest ≡ None) e
+          → IsFaultOf (class_of e) (read_bare terms.extensions terms.schema room i place.gap place.rest)
+      bare_untyped_open e n = bracket_missing (meant (read_any terms.extensions.unwrap_variant_newtypes room true place.gap place.rest) value_data) _
+          (data_view (data_.Value (Owned v))) rest (bare_at terms.extensions terms.schema room i place.gap place.rest at)
+          (as_data v rest _ (h room (room_of true r))) e n
 
-      pub bare_untyped_read : (end : Text) → past_close 41 rest ≡ Some end → read_bare terms.extensions terms.schema room i place.gap place.rest ≡ got (data_view (data_.Value (Owned v))) end
-      bare_untyped_read end n = bracket_there (meant (read_any terms.extensions.unwrap_variant_newtypes room true place.gap place.rest) value_data) _ (data_view (data_.Value (Owned v))) rest (bare_at terms.extensions terms.schema room i place.gap place.rest at) (as_data v rest _ (h room (room_of true r))) end n
+      pub bare_untyped_read : (end : Text) → past_close 41 rest ≡ Some end
+          → read_bare terms.extensions terms.schema room i place.gap place.rest ≡ got (data_view (data_.Value (Owned v))) end
+      bare_untyped_read end n = bracket_there (meant (read_any terms.extensions.unwrap_variant_newtypes room true place.gap place.rest) value_data) _
+          (data_view (data_.Value (Owned v))) rest (bare_at terms.extensions terms.schema room i place.gap place.rest at)
+          (as_data v rest _ (h room (room_of true r))) end n

@@ -52,4 +52,5 @@ IsByteList (Err e) answer rest = IsFaultOf (class_of e) answer
 -- likewise in each room that the limit leaves to the items of a list
 abbrev pub ReadsByteList : Terms → Place → Result (Vec ℕ Global) Error → Text → Type 0
 ReadsByteList terms place result rest =
-    (room : ℕ) → IsRoom terms.limit (enough_for_items terms.schema (length place.rest)) room → IsByteList result (read_bytes_from (suc room) [] place.gap place.rest) rest
+    (room : ℕ) → IsRoom terms.limit (enough_for_items terms.schema (length place.rest)) room
+    → IsByteList result (read_bytes_from (suc room) [] place.gap place.rest) rest

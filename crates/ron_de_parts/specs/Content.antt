@@ -5,7 +5,8 @@ use Rattle.ron_spec_words.specs.Characters.{Text}
 use Rattle.ron_spec_grammar.specs.Data as plain
 use Rattle.ron_spec_grammar.specs.Schema.{FieldList, Shape}
 use Rattle.ron_spec_grammar.specs.Room.{enough}
-use Rattle.ron_spec_grammar.specs.Turns.{read_tuple_group, read_below, read_content, read_closed, read_bare, read_bare_below, read_bare_items, read_tuple_inside, read_fields_inside, read_field_group}
+use Rattle.ron_spec_grammar.specs.Turns.{read_tuple_group, read_below, read_content, read_closed, read_bare, read_bare_below, read_bare_items}
+use Rattle.ron_spec_grammar.specs.Turns.{read_tuple_inside, read_fields_inside, read_field_group}
 use Rattle.ron_base.specs.declared.error.Error.{Error}
 use Rattle.ron_lex.specs.Place.{Place}
 use Rattle.ron_de_steps.specs.Reads.{Reads}

@@ -9,6 +9,8 @@ use Rattle.ron_value_number.specs.declared.width.Width.{Width}
 use Rattle.ron_spec_grammar.specs.Schema.{Shape, bool, int, char, unit}
 pub use Rattle.ron_de_steps.specs.Errors.{IsOfReading, IsOfText, IsMemoryOrClass, IsMemoryOr, IsMemoryOrText}
 
--- The shape at an index is a boolean, an integer of some width, a character or the unit. Reading it takes no level, and memory only to tell of an integer that is refused.
+-- The shape at an index is a boolean, an integer of some width, a character or the unit. Reading it takes no level, and memory only to tell of an integer that
+-- is refused.
 abbrev pub HasLeafShape : List Shape → ℕ → Type 0
-HasLeafShape schema i = (slice_get schema i ≡ Some bool) ⊎ (((w : Width) × (slice_get schema i ≡ Some (int w))) ⊎ ((slice_get schema i ≡ Some char) ⊎ (slice_get schema i ≡ Some unit)))
+HasLeafShape schema i = (slice_get schema i ≡ Some bool)
+    ⊎ (((w : Width) × (slice_get schema i ≡ Some (int w))) ⊎ ((slice_get schema i ≡ Some char) ⊎ (slice_get schema i ≡ Some unit)))

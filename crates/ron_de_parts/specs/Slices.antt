@@ -24,9 +24,11 @@ use Rattle.ron_data.specs.declared.data.VariantData.{VariantData, fold-VariantDa
 -- bytes of a list are bytes of their own; those of a byte string are a slice, which stands between its quotes, unless it holds an escape or a continuation
 abbrev pub AreSliced : Bool → Text → Text → ParsedByteStr → Type 0
 AreSliced true text rest bytes = is_byte_slice bytes ≡ false
-AreSliced false text rest bytes = IsSliceUnlessEscaped text rest (is_byte_slice bytes) × (is_byte_slice bytes ≡ true → StandAsBytes text rest (parsed_bytes bytes))
+AreSliced false text rest bytes =
+    IsSliceUnlessEscaped text rest (is_byte_slice bytes) × (is_byte_slice bytes ≡ true → StandAsBytes text rest (parsed_bytes bytes))
 
--- Of the text up to this rest, a string is a slice, which stands between its quotes, unless it holds an escape or a continuation; likewise a byte string. A raw text is a slice.
+-- Of the text up to this rest, a string is a slice, which stands between its quotes, unless it holds an escape or a continuation; likewise a byte string. A raw
+-- text is a slice.
 abbrev pub IsSliced : Text → Text → Data → Type 0
 IsSliced text rest (Str s) = IsSliceUnlessEscaped text rest (is_slice s) × (is_slice s ≡ true → StandsBetweenQuotes text rest (parsed_text s))
 IsSliced text rest (Bytes bytes) = AreSliced (is_at left_bracket text) text rest bytes
@@ -74,7 +76,8 @@ abbrev pub is_raw : Data → Bool
 is_raw (Raw raw) = true
 is_raw _ = false
 
--- A stretch of the text is what the grammar reads as this string or byte string, and of it the string is a slice unless it holds an escape or a continuation. Whole tokens lead to it from this place on, so that it stands within no comment and no other string.
+-- A stretch of the text is what the grammar reads as this string or byte string, and of it the string is a slice unless it holds an escape or a continuation.
+-- Whole tokens lead to it from this place on, so that it stands within no comment and no other string.
 pub record IsSlicedIn (from text : Text) (string : Data) : Type 0 where
   pub front : Text
   pub stretch : Text

@@ -1,5 +1,6 @@
 -- Slots: for each field of a struct its data, or none so far.
-use Rattle.std.specs.Prelude.{◌≡◌, ℕ, suc, ◌<◌, length, List, [], ◌∷◌, Option, Some, None, option_map, slice_get, set, false, Result, Ok, Err, OnOk, MatchResult}
+use Rattle.std.specs.Prelude.{◌≡◌, ℕ, suc, ◌<◌, length, List, [], ◌∷◌, Option, Some, None, option_map, slice_get, set, false, Result, Ok, Err, OnOk}
+use Rattle.std.specs.Prelude.{MatchResult}
 use Rattle.std.specs.List.{list_any}
 use Rattle.ron_spec_words.specs.Characters.{Text, right_parenthesis}
 use Rattle.ron_spec_words.specs.Name.{name}
@@ -44,7 +45,8 @@ FindsField list slots name result =
     (seen : List Item) → AreSlotsOf slots list.fields seen → MatchResult result (IsTarget list seen name) (IsMemoryOr (target list seen name ≡ None))
 
 -- behind a field's name, the colon and the gaps, its value stands
-pub record IsAtValue (x : Extensions) (schema : List Shape) (room : ℕ) (list : FieldList) (seen : List Item) (index : ℕ) (s : Text) (place : Place) : Type 0 where
+pub record IsAtValue (x : Extensions) (schema : List Shape) (room : ℕ) (list : FieldList) (seen : List Item) (index : ℕ) (s : Text) (place : Place) : Type
+    0 where
   pub field : Field
   pub at : slice_get list.fields index ≡ Some field
   pub is_new : list_any (is_of field.name) seen ≡ false
@@ -116,7 +118,8 @@ ReadsField terms list slots place result rest =
 
 -- what stands in the slots at the closing parenthesis makes up what reading the fields answers
 abbrev pub ReadsSlots : (Slots → List (Option Data)) → (Fields → plain.Data) → List Field → Result Slots Error → Got plain.Data → Text → Type 0
-ReadsSlots slots make fields (Ok found) answer rest = (u : Text) × (rest ≡ right_parenthesis ∷ u) × (answer ≡ given (option_map make (filled fields (slots_view (slots found)))) u)
+ReadsSlots slots make fields (Ok found) answer rest =
+    (u : Text) × (rest ≡ right_parenthesis ∷ u) × (answer ≡ given (option_map make (filled fields (slots_view (slots found)))) u)
 ReadsSlots slots make fields (Err e) answer rest = IsFaultOf (class_of e) answer
 
 -- likewise in each room that the limit leaves to the fields, whatever they make

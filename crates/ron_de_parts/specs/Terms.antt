@@ -8,7 +8,8 @@ use Rattle.ron_base.specs.Limit.{one_deeper}
 use Rattle.ron_data_schema.specs.Shapes.{IsOneLonger}
 use Rattle.ron_de_steps.specs.Conditions.{Conditions}
 
--- the extensions in force, the table of shapes, how many levels are left, where that is limited, and the text that slices are taken of, where texts aren't copied
+-- the extensions in force, the table of shapes, how many levels are left, where that is limited, and the text that slices are taken of, where texts aren't
+-- copied
 pub record Terms : Type 0 where
   pub extensions : Extensions
   pub schema : List Shape
@@ -22,7 +23,8 @@ source_view (Some text) = Some (chars text.now)
 
 -- the same, one level deeper
 abbrev pub IsDeeper : Terms → Terms → Type 0
-IsDeeper outer inner = (inner.extensions ≡ outer.extensions) × (inner.schema ≡ outer.schema) × (one_deeper outer.limit ≡ Some inner.limit) × (inner.source ≡ outer.source)
+IsDeeper outer inner =
+    (inner.extensions ≡ outer.extensions) × (inner.schema ≡ outer.schema) × (one_deeper outer.limit ≡ Some inner.limit) × (inner.source ≡ outer.source)
 
 -- what every value is read under, without the schema and the source
 abbrev pub conditions_of : Terms → Conditions

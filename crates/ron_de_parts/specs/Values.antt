@@ -77,10 +77,12 @@ abbrev pub RefusesLeaf : Terms → ℕ → Place → Result Data Error → Type 
 RefusesLeaf terms i place result =
     HasLeafShape terms.schema i → IfErr result (λ _. (room : ℕ) → read terms.extensions terms.schema room false i place.gap place.rest ≡ failed bad)
 
--- Where the shape at an index is a string, and slices are taken of the text, a refusal says that none is read there, in any room, or that the string holds an escape or a continuation, for which memory is wanted.
+-- Where the shape at an index is a string, and slices are taken of the text, a refusal says that none is read there, in any room, or that the string holds an
+-- escape or a continuation, for which memory is wanted.
 abbrev pub TakesMemoryForEscapes : Terms → ℕ → Place → Result Data Error → Type 0
 TakesMemoryForEscapes terms i place result =
-    slice_get terms.schema i ≡ Some str → terms.source ≡ Some place.text → IfErr result (λ _. HoldsEscape String place.rest ⊎ ((room : ℕ) → read terms.extensions terms.schema room false i place.gap place.rest ≡ failed bad))
+    slice_get terms.schema i ≡ Some str → terms.source ≡ Some place.text
+    → IfErr result (λ _. HoldsEscape String place.rest ⊎ ((room : ℕ) → read terms.extensions terms.schema room false i place.gap place.rest ≡ failed bad))
 
 -- Where the shape at an index is bytes, and none begin here, the answer is that a byte string is expected.
 abbrev pub ExpectsBytesAt : Terms → ℕ → Place → Result Data Error → Type 0

@@ -1,5 +1,6 @@
 -- A text that is read by itself, step by step.
-use Rattle.std.proofs.Common.{◌≡◌, ◌-◌, Bool, true, false, cond, [], ◌∷◌, ◌++◌, length, take, take_at, length-append, arith, Some, None, Result, Ok, Err, refl, sym, ap, subst, ◌∙◌, inl, inr, ◌⊎◌}
+use Rattle.std.proofs.Common.{◌≡◌, ◌-◌, Bool, true, false, cond, [], ◌∷◌, ◌++◌, length, take, take_at, length-append, arith, Some, None, Result, Ok, Err, refl}
+use Rattle.std.proofs.Common.{sym, ap, subst, ◌∙◌, inl, inr, ◌⊎◌}
 use Rattle.std.proofs.lemmas.Bool.{eqb-true}
 use Rattle.std.proofs.lemmas.List.{append_cancel_right}
 use Rattle.std.proofs.lemmas.Slice.Eq.{bytes_eq-Decides}
@@ -62,7 +63,8 @@ module _ (s gap here : Text) (e : is_at 47 (skip s) ≡ false) (g : gap ≡ gap_
       go false = refl
 
 -- a refusal by its class: want of memory, or no text that is valid
-pub refused_alone : (text : Text) (e : Error) (answer : Got Tree) → ((f : Fault) → answer ≡ failed f → raw_valid text ≡ false) → IsFaultOf (class_of e) answer → RefusesRaw text e
+pub refused_alone : (text : Text) (e : Error) (answer : Got Tree) → ((f : Fault) → answer ≡ failed f → raw_valid text ≡ false) → IsFaultOf (class_of e) answer
+    → RefusesRaw text e
 refused_alone text e answer h g = go (class_of e) refl g
   where
     go : (k : ErrorClass) → class_of e ≡ k → IsFaultOf k answer → RefusesRaw text e
@@ -124,7 +126,8 @@ pub record Stands (s : Text) : Type 0 where
   pub no_slash : is_at 47 (skip s) ≡ false
   pub answer : read_any false 128 false (gap_of s) (skip s) ≡ got value rest
 
-stands_after : (s : Text) → (b : Bool) → is_at 47 (skip s) ≡ b → (o : Got Tree) → read_any false 128 false (gap_of s) (skip s) ≡ o → raw_valid s ≡ true → Stands s
+stands_after : (s : Text) → (b : Bool) → is_at 47 (skip s) ≡ b → (o : Got Tree) → read_any false 128 false (gap_of s) (skip s) ≡ o → raw_valid s ≡ true
+    → Stands s
 stands_after s true e o h v = absurd (let z = slash_alone s e in cc)
 stands_after s false e (failed f) h v = absurd (let z = fault_alone s (gap_of s) (skip s) e refl refl f h in cc)
 stands_after s false e (got t rest) h v = record { value = t; rest = rest; no_slash = e; answer = h }
@@ -134,7 +137,8 @@ stands_there s v = stands_after s (is_at 47 (skip s)) refl (read_any false 128 f
 
 pub core_is : (s core rest : Text) (v : Tree) → read_any false 128 false (gap_of s) (skip s) ≡ got v rest → skip s ≡ core ++ rest → core ≡ without_gaps s
 unfolding without_gaps
-core_is s core rest v h e = rw h (let k : take (length (skip s) - length rest) (skip s) ≡ core = ap (λ t. take (length t - length rest) t) e ∙ take_at core rest (length (core ++ rest) - length rest) (omega (arith, length-append core rest)) in sym k)
+core_is s core rest v h e = rw h (let k : take (length (skip s) - length rest) (skip s) ≡ core =
+    ap (λ t. take (length t - length rest) t) e ∙ take_at core rest (length (core ++ rest) - length rest) (omega (arith, length-append core rest)) in sym k)
 
 -- ---- by the code's calls
 
@@ -143,7 +147,9 @@ abbrev within_raw_limit : Extensions → Conditions
 within_raw_limit set = record { extensions = set; limit = Some 128 }
 
 -- under no extensions
-pub alone_in : (x : Conditions) (set : Extensions) (place : Place) (result : Result Value Error) (rest : Text) → x ≡ record { extensions = set; limit = Some 128 } → set ≡ no_extensions → ReadsAny x false place result rest → Reads tree_of result (read_any false 128 false place.gap place.rest) rest
+pub alone_in : (x : Conditions) (set : Extensions) (place : Place) (result : Result Value Error) (rest : Text)
+    → x ≡ record { extensions = set; limit = Some 128 } → set ≡ no_extensions → ReadsAny x false place result rest
+    → Reads tree_of result (read_any false 128 false place.gap place.rest) rest
 alone_in x set place result rest e f h = subst (λ (c : Conditions). ReadsAny c false place result rest) (e ∙ ap within_raw_limit f) h 128 refl
 
 -- a refusal where a slash decides
@@ -152,7 +158,8 @@ by_slash (Ok a) b e h = absurd (cc)
 by_slash (Err x) b e h = h
 
 -- the end of what stands behind the value decides
-pub closes_alone : (text : Text) (b : Bool) (r : Result (Unit {0}) Error) → raw_valid text ≡ b → MatchResult r (λ _. b ≡ true) (λ _. b ≡ false) → IfErr r (λ e. (e ≡ TrailingCharacters) ⊎ IsOfReading e) → ReadsAlone text r
+pub closes_alone : (text : Text) (b : Bool) (r : Result (Unit {0}) Error) → raw_valid text ≡ b → MatchResult r (λ _. b ≡ true) (λ _. b ≡ false)
+    → IfErr r (λ e. (e ≡ TrailingCharacters) ⊎ IsOfReading e) → ReadsAlone text r
 closes_alone text b (Ok u) e h f = e ∙ h
 closes_alone text b (Err x) e h f = (inr (e ∙ h), f)
 
@@ -179,6 +186,8 @@ module _ (s gap here : Text) (g : gap ≡ gap_of s) (h : here ≡ skip s) (valid
   core_there t core rest k c = core_is s core rest t (rw (sym g, sym h) k) (sym h ∙ c)
 
 -- what is answered of its value
-pub core_or_memory : {A : Type 0} (text_of : A → Text) (s : Text) (place : Place) (r : Result A Error) (rest : Text) → place.gap ≡ gap_of s → place.rest ≡ skip s → raw_valid s ≡ true → PassesValue place r rest → IfOk r (λ core. place.rest ≡ text_of core ++ rest) → MatchResult r (λ core. text_of core ≡ without_gaps s) (λ e. e ≡ OutOfMemory)
+pub core_or_memory : {A : Type 0} (text_of : A → Text) (s : Text) (place : Place) (r : Result A Error) (rest : Text) → place.gap ≡ gap_of s
+    → place.rest ≡ skip s → raw_valid s ≡ true → PassesValue place r rest → IfOk r (λ core. place.rest ≡ text_of core ++ rest)
+    → MatchResult r (λ core. text_of core ≡ without_gaps s) (λ e. e ≡ OutOfMemory)
 core_or_memory text_of s place (Ok core) rest g h valid v is = core_there s place.gap place.rest g h valid v.0 (text_of core) rest v.1 is
 core_or_memory text_of s place (Err e) rest g h valid f is = only_memory s place.gap place.rest g h valid e f

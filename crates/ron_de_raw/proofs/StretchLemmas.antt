@@ -1,5 +1,6 @@
 -- What a raw text takes of the gaps around its value, a step of the code at a time.
-use Rattle.std.proofs.Common.{◌≡◌, ℕ, Bool, true, false, not, ◌||◌, ◌==◌, cond, [], ◌∷◌, ◌++◌, length, length-append, drop, arith, ◌≤◌, refl, sym, ap, ◌∙◌, append_assoc, append-nil}
+use Rattle.std.proofs.Common.{◌≡◌, ℕ, Bool, true, false, not, ◌||◌, ◌==◌, cond, [], ◌∷◌, ◌++◌, length, length-append, drop, arith, ◌≤◌, refl, sym, ap, ◌∙◌}
+use Rattle.std.proofs.Common.{append_assoc, append-nil}
 use Rattle.std.proofs.Math.Seq.{drop-append_seam}
 use Rattle.std.specs.Char.{is_whitespace}
 use Rattle.ron_spec_words.specs.Characters.{Text}
@@ -65,7 +66,8 @@ module _ (text white rest after : Text) (c : ℕ) (h : WhiteSoFar text white res
     split = h.split ∙ ap (λ u. h.front ++ u) (white_is ∙ sym (append_assoc h.seen (c ∷ []) after)) ∙ sym (append_assoc h.front (h.seen ++ c ∷ []) after);
     behind = refl;
     every = tt;
-    trimmed = h.trimmed ∙ ap (λ u. h.front ++ u) (ap trim_back white_is ∙ mark_stays h.seen c after w ∙ sym (append_assoc h.seen (c ∷ []) (trim_back after))) ∙ sym (append_assoc h.front (h.seen ++ c ∷ []) (trim_back after));
+    trimmed = h.trimmed ∙ ap (λ u. h.front ++ u) (ap trim_back white_is ∙ mark_stays h.seen c after w ∙ sym (append_assoc h.seen (c ∷ []) (trim_back after)))
+        ∙ sym (append_assoc h.front (h.seen ++ c ∷ []) (trim_back after));
   }
 
 pub all_seen : (text white : Text) → WhiteSoFar text white [] → text ≡ trim_back text ++ white
@@ -108,7 +110,8 @@ closed_is gap (c ∷ rest) e = rw e refl
 
 -- ---- the whole
 
-pub raw_text_is : (before core after : Text) (at_start : Bool) → raw_text before core after at_start ≡ taken_before at_start before ++ (core ++ taken_behind at_start core after)
+pub raw_text_is : (before core after : Text) (at_start : Bool)
+    → raw_text before core after at_start ≡ taken_before at_start before ++ (core ++ taken_behind at_start core after)
 unfolding raw_text
 raw_text_is before core after true = refl
 raw_text_is before core after false = refl
@@ -140,6 +143,7 @@ pub front_trimmed : (gap rest : Text) → rest ≡ after_run is_whitespace gap �
 front_trimmed gap rest e = run_end is_whitespace gap rest e
 
 -- the whole of what a raw text takes, between where it begins and where it ends
-pub between : (before core behind here rest gap next start end : Text) → start ≡ before ++ here → here ≡ core ++ rest → rest ≡ gap ++ next → gap ++ next ≡ behind ++ end → start ≡ (before ++ (core ++ behind)) ++ end
+pub between : (before core behind here rest gap next start end : Text) → start ≡ before ++ here → here ≡ core ++ rest → rest ≡ gap ++ next
+    → gap ++ next ≡ behind ++ end → start ≡ (before ++ (core ++ behind)) ++ end
 between before core behind here rest gap next start end e f g h =
     e ∙ ap (λ t. before ++ t) (f ∙ ap (λ t. core ++ t) (g ∙ h) ∙ sym (append_assoc core behind end)) ∙ sym (append_assoc before (core ++ behind) end)

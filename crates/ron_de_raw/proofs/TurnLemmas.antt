@@ -21,17 +21,20 @@ use Rattle.ron_de_raw.specs.Reading.{taken_before}
 -- ---- a text that is read by itself
 
 -- from behind its first gap
-module _ (old start : Place) (text : start.text ≡ old.text) (over : GoesOver 1 old start) (gap : start.gap ≡ gap_of old.rest) (rest : start.rest ≡ skip old.rest) where
+module _ (old start : Place) (text : start.text ≡ old.text) (over : GoesOver 1 old start) (gap : start.gap ≡ gap_of old.rest)
+    (rest : start.rest ≡ skip old.rest) where
   both : bytes_in start.gap + bytes_in start.rest ≡ bytes_in old.rest
   both = gap_splits old start gap rest
 
   pub alone_scanned : (new : Place) → Scans 2 start new → new.turns ≤ old.turns + 7 * bytes_in old.rest
   alone_scanned new h = omega (arith, over, both, h)
 
-  pub alone_refused : {A E : Type 0} (e : E) (new : Place) → SpendsUntyped {A = A} 2 start (Err e) new → IsReached old → new.turns ≤ old.turns + 7 * bytes_in old.rest
+  pub alone_refused : {A E : Type 0} (e : E) (new : Place) → SpendsUntyped {A = A} 2 start (Err e) new → IsReached old
+      → new.turns ≤ old.turns + 7 * bytes_in old.rest
   alone_refused e new s reached = omega (arith, over, both, untyped_most 2 start (Err e) new (omega arith) (reached_gap old start text rest reached) s)
 
-  pub alone_closed : {A E : Type 0} (v : A) (core : Text) (mid new : Place) → SpendsUntyped {E = E} 2 start (Ok v) mid → start.rest ≡ core ++ mid.rest → Scans 3 mid new → IsReached old → new.turns ≤ old.turns + 7 * bytes_in old.rest
+  pub alone_closed : {A E : Type 0} (v : A) (core : Text) (mid new : Place) → SpendsUntyped {E = E} 2 start (Ok v) mid → start.rest ≡ core ++ mid.rest
+      → Scans 3 mid new → IsReached old → new.turns ≤ old.turns + 7 * bytes_in old.rest
   unfolding total_behind settled
   alone_closed {E = E} v core mid new s is h reached =
       let k : Spends {E = E} 1 0 2 start (Ok v) mid = s (reached_gap old start text rest reached) 1 0 (omega arith) in
@@ -39,10 +42,12 @@ module _ (old start : Place) (text : start.text ≡ old.text) (over : GoesOver 1
 
 -- from its start
 module _ (ron : Text) (first last : Place) (t : ℕ) (text : first.text ≡ ron) (rest : first.rest ≡ ron) where
-  pub valid_turns : first.turns ≡ fill_rate * bytes_in ron → (IsReached first → last.turns ≤ first.turns + 7 * bytes_in first.rest) → t ≤ last.turns → t ≤ 12 * bytes_in ron
+  pub valid_turns : first.turns ≡ fill_rate * bytes_in ron → (IsReached first → last.turns ≤ first.turns + 7 * bytes_in first.rest) → t ≤ last.turns
+      → t ≤ 12 * bytes_in ron
   valid_turns e h le = omega (arith, e, h (subst (Leads first.text) (text ∙ sym rest) (same first.text)), ap bytes_in rest, le)
 
-  pub valid_least : (old new : ℕ) → last.text ≡ first.text → last.rest ≡ [] → bytes_in last.text ≤ t + bytes_in last.rest → new ≡ min (old + t) most_turns → min (old + bytes_in ron) most_turns ≤ new
+  pub valid_least : (old new : ℕ) → last.text ≡ first.text → last.rest ≡ [] → bytes_in last.text ≤ t + bytes_in last.rest → new ≡ min (old + t) most_turns
+      → min (old + bytes_in ron) most_turns ≤ new
   valid_least old new e ends least h = omega (arith, ap bytes_in (e ∙ text), ap bytes_in ends, size_nothing, least, h)
 
 -- ---- a raw text within a text
@@ -62,9 +67,18 @@ taken_less true gap = omega arith
 taken_less false gap = size_run is_whitespace gap
 
 -- what is read once more is no more than the gap before the value, the value, and the gap behind it
-pub text_most : (at_start : Bool) (before here start end behind text : Text) → start ≡ taken_before at_start before ++ here → start ≡ text ++ end → IsSuffix behind end → bytes_in text + bytes_in behind ≤ bytes_in before + bytes_in here
+pub text_most : (at_start : Bool) (before here start end behind text : Text) → start ≡ taken_before at_start before ++ here → start ≡ text ++ end
+    → IsSuffix behind end → bytes_in text + bytes_in behind ≤ bytes_in before + bytes_in here
 text_most at_start before here start end behind text e f z =
-    omega (arith, ap bytes_in e, ap bytes_in f, size_append (taken_before at_start before) here, size_append text end, size_end z.front behind end z.is, taken_less at_start before)
+    omega (
+      arith,
+      ap bytes_in e,
+      ap bytes_in f,
+      size_append (taken_before at_start before) here,
+      size_append text end,
+      size_end z.front behind end z.is,
+      taken_less at_start before,
+    )
 
 -- the gap before it is looked through, and the value read
 module _ (old begun : Place) (begins : Stays old begun) (looked : begun.turns ≤ old.turns + bytes_in old.gap) where
@@ -80,18 +94,23 @@ module _ (old begun : Place) (begins : Stays old begun) (looked : begun.turns �
     -- and where the gap behind it is refused
     pub gap_refused : {B F : Type 0} (f : F) (new : Place) → Scans 1 first new → SpendsRaw {A = B} 2 old (Err f) new
     gap_refused f new h = λ reached c k room.
-        keeps_err c k (total_before c k 2 old) f new (refused_besides c k 2 room old begun begins looked new.turns (omega (arith, scans_behind 1 k 1 first new (omega arith) h, left_there k reached)))
+        keeps_err c k (total_before c k 2 old) f new
+        (refused_besides c k 2 room old begun begins looked new.turns (omega (arith, scans_behind 1 k 1 first new (omega arith) h, left_there k reached)))
 
     -- and where it is gone past, the value and that gap looked through, and all of it read once more and kept
-    module _ (core : Text) (is : old.rest ≡ core ++ first.rest) (behind : Place) (gap : behind.gap ≡ gap_of first.rest) (rest : behind.rest ≡ skip first.rest) (over : GoesOver 1 first behind) (text : Text) (most : bytes_in text + bytes_in behind.rest ≤ bytes_in old.gap + bytes_in old.rest) (judged : ℕ) (judges : judged ≤ behind.turns + bytes_in core + 3 * bytes_in behind.gap + 12 * bytes_in text) where
+    module _ (core : Text) (is : old.rest ≡ core ++ first.rest) (behind : Place) (gap : behind.gap ≡ gap_of first.rest) (rest : behind.rest ≡ skip first.rest)
+        (over : GoesOver 1 first behind) (text : Text) (most : bytes_in text + bytes_in behind.rest ≤ bytes_in old.gap + bytes_in old.rest) (judged : ℕ)
+        (judges : judged ≤ behind.turns + bytes_in core + 3 * bytes_in behind.gap + 12 * bytes_in text) where
       parts : bytes_in old.rest ≡ bytes_in core + (bytes_in behind.gap + bytes_in behind.rest)
       parts = omega (arith, ap bytes_in is, size_append core first.rest, gap_splits first behind gap rest)
 
       pub raw_read : {B F : Type 0} (b : B) (new : Place) → new.rest ≡ behind.rest → new.turns ≤ judged + bytes_in text → SpendsRaw {E = F} 2 old (Ok b) new
       raw_read b new e le = λ reached c k room.
-          keeps_ok c k (total_before c k 2 old) b new (raw_settles c k 2 room old begun first behind begins looked (left_there k reached) over (gap_nears first behind rest) new (omega (arith, parts)) e (omega (arith, le, judges, most, parts)))
+          keeps_ok c k (total_before c k 2 old) b new (raw_settles c k 2 room old begun first behind begins looked (left_there k reached) over
+          (gap_nears first behind rest) new (omega (arith, parts)) e (omega (arith, le, judges, most, parts)))
 
       pub raw_judged : {B F : Type 0} (f : F) (new : Place) → new.turns ≤ judged + 2 * bytes_in behind.gap → SpendsRaw {A = B} 2 old (Err f) new
       unfolding total_behind settled
       raw_judged f new le = λ reached c k room.
-          keeps_err c k (total_before c k 2 old) f new (refused_besides c k 2 room old begun begins looked new.turns (omega (arith, le, judges, most, parts, over, gap_splits first behind gap rest, left_there k reached)))
+          keeps_err c k (total_before c k 2 old) f new (refused_besides c k 2 room old begun begins looked new.turns
+          (omega (arith, le, judges, most, parts, over, gap_splits first behind gap rest, left_there k reached)))

@@ -40,7 +40,8 @@ is_fault depth answer t = absurd t
 is_fault other answer t = t
 
 -- a fault of a part is the fault of the whole
-pub fault_of : {A B : Type 0} (k : ErrorClass) (part : Got A) (whole : Got B) → ((fault : Fault) → part ≡ failed fault → whole ≡ failed fault) → IsFaultOf k part → IsFaultOf k whole
+pub fault_of : {A B : Type 0} (k : ErrorClass) (part : Got A) (whole : Got B) → ((fault : Fault) → part ≡ failed fault → whole ≡ failed fault)
+    → IsFaultOf k part → IsFaultOf k whole
 fault_of memory part whole f g = tt
 fault_of depth part whole f g = f deep g
 fault_of other part whole f g = f bad g
@@ -52,6 +53,7 @@ memory_or_bad depth answer t h = absurd t
 memory_or_bad other answer t h = h
 
 -- a string is refused for an escape that wants memory, or since none is read
-pub escaped_or_bad : {V A P : Type 0} (view : V → A) (refusal : StringRefusal) (answer : Got A) (rest : Text) → GivesOrMemory view (Err refusal) answer rest → (refusal ≡ refusal_.OutOfMemory → P) → P ⊎ (answer ≡ failed bad)
+pub escaped_or_bad : {V A P : Type 0} (view : V → A) (refusal : StringRefusal) (answer : Got A) (rest : Text) → GivesOrMemory view (Err refusal) answer rest
+    → (refusal ≡ refusal_.OutOfMemory → P) → P ⊎ (answer ≡ failed bad)
 escaped_or_bad view StringRefusal.OutOfMemory answer rest gives escaped = inl (escaped refl)
 escaped_or_bad view (StringRefusal.Refused refused) answer rest gives escaped = inr gives

@@ -1,5 +1,6 @@
 -- Items between brackets, a turn of the code's loop at a time: for lists, tuples, maps and fields alike.
-use Rattle.std.proofs.Common.{◌≡◌, ℕ, ◌≤◌, eqb, ◌==◌, Bool, true, false, cond, ◌⊎◌, inl, inr, List, [], ◌∷◌, length, Option, Some, None, option_and_then, refl, sym, ap, ap₂, ◌∙◌, arith}
+use Rattle.std.proofs.Common.{◌≡◌, ℕ, ◌≤◌, eqb, ◌==◌, Bool, true, false, cond, ◌⊎◌, inl, inr, List, [], ◌∷◌, length, Option, Some, None, option_and_then, refl}
+use Rattle.std.proofs.Common.{sym, ap, ap₂, ◌∙◌, arith}
 use Rattle.std.proofs.lemmas.Bool.{eqb-true}
 use Rattle.std.proofs.lemmas.Option.{same_Some}
 use Rattle.ron_spec_words.specs.Characters.{Text}
@@ -42,11 +43,14 @@ at_item close gap (c ∷ s) = cond (c == 44) (unless_slash s (Some (gap_of s, sk
 pub item_is : (close : ℕ) (s : Text) → past_item close s ≡ unless_slash s (at_item close (gap_of s) (skip s))
 item_is close s = go (is_at 47 (skip s))
   where
-    behind : (c : Bool) (u : Text) → option_and_then (λ (p : Bool × (Text × Text)). or_closed close p.0 p.1) (cond c None (Some (true, (gap_of u, skip u)))) ≡ cond c None (Some (gap_of u, skip u))
+    behind : (c : Bool) (u : Text) → option_and_then (λ (p : Bool × (Text × Text)). or_closed close p.0 p.1) (cond c None (Some (true, (gap_of u, skip u))))
+        ≡ cond c None (Some (gap_of u, skip u))
     behind true u = refl
     behind false u = refl
 
-    led : (b : Bool) (gap : Text) (c : ℕ) (u : Text) → option_and_then (λ (p : Bool × (Text × Text)). or_closed close p.0 p.1) (cond b (unless_slash u (Some (true, (gap_of u, skip u)))) (Some (false, (gap, c ∷ u)))) ≡ cond b (unless_slash u (Some (gap_of u, skip u))) (cond (c == close) (Some (gap, c ∷ u)) None)
+    led : (b : Bool) (gap : Text) (c : ℕ) (u : Text) → option_and_then (λ (p : Bool × (Text × Text)). or_closed close p.0 p.1)
+        (cond b (unless_slash u (Some (true, (gap_of u, skip u)))) (Some (false, (gap, c ∷ u))))
+        ≡ cond b (unless_slash u (Some (gap_of u, skip u))) (cond (c == close) (Some (gap, c ∷ u)) None)
     led true gap c u = behind (is_at 47 (skip u)) u
     led false gap c u = refl
 
@@ -54,16 +58,19 @@ item_is close s = go (is_at 47 (skip s))
     at gap [] = refl
     at gap (c ∷ u) = led (c == 44) gap c u
 
-    go : (b : Bool) → option_and_then (λ (p : Bool × (Text × Text)). or_closed close p.0 p.1) (cond b None (at_comma (gap_of s) (skip s))) ≡ cond b None (at_item close (gap_of s) (skip s))
+    go : (b : Bool) → option_and_then (λ (p : Bool × (Text × Text)). or_closed close p.0 p.1) (cond b None (at_comma (gap_of s) (skip s)))
+        ≡ cond b None (at_item close (gap_of s) (skip s))
     go true = refl
     go false = at (gap_of s) (skip s)
 
 module _ (close : ℕ) (gap : Text) where
-  pub comma_cases : (s g t : Text) → at_item close gap s ≡ Some (g, t) → ((u : Text) × (s ≡ 44 ∷ u) × (is_at 47 (skip u) ≡ false) × (gap_of u ≡ g) × (skip u ≡ t)) ⊎ ((u : Text) × (s ≡ close ∷ u) × (close ∷ u ≡ t))
+  pub comma_cases : (s g t : Text) → at_item close gap s ≡ Some (g, t)
+      → ((u : Text) × (s ≡ 44 ∷ u) × (is_at 47 (skip u) ≡ false) × (gap_of u ≡ g) × (skip u ≡ t)) ⊎ ((u : Text) × (s ≡ close ∷ u) × (close ∷ u ≡ t))
   comma_cases [] g t e = absurd (cc)
   comma_cases (c ∷ s) g t e = go (eqb c 44) (eqb c close) refl refl e
     where
-      go : (a b : Bool) → eqb c 44 ≡ a → eqb c close ≡ b → cond {A = Option (Text × Text)} a (unless_slash s (Some (gap_of s, skip s))) (cond b (Some (gap, c ∷ s)) None) ≡ Some (g, t)
+      go : (a b : Bool) → eqb c 44 ≡ a → eqb c close ≡ b
+          → cond {A = Option (Text × Text)} a (unless_slash s (Some (gap_of s, skip s))) (cond b (Some (gap, c ∷ s)) None) ≡ Some (g, t)
           → ((u : Text) × (c ∷ s ≡ 44 ∷ u) × (is_at 47 (skip u) ≡ false) × (gap_of u ≡ g) × (skip u ≡ t)) ⊎ ((u : Text) × (c ∷ s ≡ close ∷ u) × (close ∷ u ≡ t))
       go true b p q r =
           let n = unless_some s (Some (gap_of s, skip s)) (g, t) r in
@@ -75,11 +82,13 @@ module _ (close : ℕ) (gap : Text) where
           inr (s, ap (λ k. k ∷ s) same, ap (λ k. k ∷ s) (sym same) ∙ ap (λ (z : Text × Text). z.1) k)
       go false false p q r = absurd (cc)
 
-  comma_none : (s : Text) → at_item close gap s ≡ None → ((is_at 44 s ≡ false) × (is_at close s ≡ false)) ⊎ ((u : Text) × (s ≡ 44 ∷ u) × (is_at 47 (skip u) ≡ true))
+  comma_none : (s : Text) → at_item close gap s ≡ None
+      → ((is_at 44 s ≡ false) × (is_at close s ≡ false)) ⊎ ((u : Text) × (s ≡ 44 ∷ u) × (is_at 47 (skip u) ≡ true))
   comma_none [] e = inl (refl, refl)
   comma_none (c ∷ s) e = go (eqb c 44) (eqb c close) refl refl e
     where
-      go : (a b : Bool) → eqb c 44 ≡ a → eqb c close ≡ b → cond {A = Option (Text × Text)} a (unless_slash s (Some (gap_of s, skip s))) (cond b (Some (gap, c ∷ s)) None) ≡ None
+      go : (a b : Bool) → eqb c 44 ≡ a → eqb c close ≡ b
+          → cond {A = Option (Text × Text)} a (unless_slash s (Some (gap_of s, skip s))) (cond b (Some (gap, c ∷ s)) None) ≡ None
           → ((eqb c 44 ≡ false) × (eqb c close ≡ false)) ⊎ ((u : Text) × (c ∷ s ≡ 44 ∷ u) × (is_at 47 (skip u) ≡ true))
       go true b p q r = inr (s, ap (λ k. k ∷ s) (eqb-true c 44 p), unless_none s (gap_of s, skip s) r)
       go false true p q r = absurd (cc)
@@ -87,18 +96,25 @@ module _ (close : ℕ) (gap : Text) where
 
 -- ---- a turn of the reader function
 
--- Of a group, `item` reads an item and `group` all from a place on, each in a room, with the items before the place, the last of them first, and behind a gap: over, an item that fails, the last one, one with neither a comma nor the bracket behind it, and one with more behind it.
-pub record HasTurns {A B : Type 0} (item : ℕ → List A → Text → Text → Got A) (group : ℕ → List A → Text → Text → Got B) (close : ℕ) (f : List A → Option B) : Type 0 where
+-- Of a group, `item` reads an item and `group` all from a place on, each in a room, with the items before the place, the last of them first, and behind a gap:
+-- over, an item that fails, the last one, one with neither a comma nor the bracket behind it, and one with more behind it.
+pub record HasTurns {A B : Type 0} (item : ℕ → List A → Text → Text → Got A) (group : ℕ → List A → Text → Text → Got B) (close : ℕ)
+    (f : List A → Option B) : Type 0 where
   pub over : (room : ℕ) (seen : List A) (gap s u : Text) → s ≡ close ∷ u → group room seen gap s ≡ given (f (all_items seen [])) u
-  pub fails : (room : ℕ) (seen : List A) (gap s : Text) → is_at close s ≡ false → (x : Fault) → item room seen gap s ≡ failed x → group room seen gap s ≡ failed x
-  pub last : (room : ℕ) (seen : List A) (gap s : Text) → is_at close s ≡ false → (a : A) (rest u : Text) → item room seen gap s ≡ got a rest → skip rest ≡ close ∷ u → group room seen gap s ≡ given (f (all_items (a ∷ seen) [])) u
-  pub stays_open : (room : ℕ) (seen : List A) (gap s : Text) → is_at close s ≡ false → (a : A) (rest : Text) → item room seen gap s ≡ got a rest → is_at 44 (skip rest) ≡ false → is_at close (skip rest) ≡ false → group room seen gap s ≡ failed bad
-  pub goes_on : (room : ℕ) (seen : List A) (gap s : Text) → is_at close s ≡ false → (a : A) (rest u : Text) → item room seen gap s ≡ got a rest → skip rest ≡ 44 ∷ u → group room seen gap s ≡ after_gap (group room (a ∷ seen)) u
+  pub fails : (room : ℕ) (seen : List A) (gap s : Text) → is_at close s ≡ false → (x : Fault) → item room seen gap s ≡ failed x
+      → group room seen gap s ≡ failed x
+  pub last : (room : ℕ) (seen : List A) (gap s : Text) → is_at close s ≡ false → (a : A) (rest u : Text) → item room seen gap s ≡ got a rest
+      → skip rest ≡ close ∷ u → group room seen gap s ≡ given (f (all_items (a ∷ seen) [])) u
+  pub stays_open : (room : ℕ) (seen : List A) (gap s : Text) → is_at close s ≡ false → (a : A) (rest : Text) → item room seen gap s ≡ got a rest
+      → is_at 44 (skip rest) ≡ false → is_at close (skip rest) ≡ false → group room seen gap s ≡ failed bad
+  pub goes_on : (room : ℕ) (seen : List A) (gap s : Text) → is_at close s ≡ false → (a : A) (rest u : Text) → item room seen gap s ≡ got a rest
+      → skip rest ≡ 44 ∷ u → group room seen gap s ≡ after_gap (group room (a ∷ seen)) u
   pub no_slash : (47 == close) ≡ false
 
 -- ---- a turn of the loop
 
-module _ {A B : Type 0} (item : ℕ → List A → Text → Text → Got A) (group : ℕ → List A → Text → Text → Got B) (close : ℕ) (f : List A → Option B) (turns : HasTurns item group close f) (limit : Option ℕ) (levels : ℕ → ℕ) (rises : (m n : ℕ) → m ≤ n → levels m ≤ levels n) where
+module _ {A B : Type 0} (item : ℕ → List A → Text → Text → Got A) (group : ℕ → List A → Text → Text → Got B) (close : ℕ) (f : List A → Option B)
+    (turns : HasTurns item group close f) (limit : Option ℕ) (levels : ℕ → ℕ) (rises : (m n : ℕ) → m ≤ n → levels m ≤ levels n) where
   -- the room that the limit leaves to the items from a place on
   abbrev pub IsRoomAt : Text → ℕ → Type 0
   IsRoomAt s room = IsRoom limit (levels (length s)) room
@@ -119,11 +135,13 @@ module _ {A B : Type 0} (item : ℕ → List A → Text → Text → Got A) (gro
     items_over u e room r = z.reads room r ∙ turns.over room seen now.gap now.rest u e
 
     module _ (still : is_at close now.rest ≡ false) where
-      pub item_fails : (k : ErrorClass) → ((room : ℕ) → IsRoomAt now.rest room → IsFaultOf k (item room seen now.gap now.rest)) → (room : ℕ) → IsRoomAt old.rest room → IsFaultOf k (group room [] old.gap old.rest)
+      pub item_fails : (k : ErrorClass) → ((room : ℕ) → IsRoomAt now.rest room → IsFaultOf k (item room seen now.gap now.rest)) → (room : ℕ)
+          → IsRoomAt old.rest room → IsFaultOf k (group room [] old.gap old.rest)
       item_fails k g room r = fault_of k _ _ (λ x e. z.reads room r ∙ turns.fails room seen now.gap now.rest still x e) (g room (room_now room r))
 
       module _ (a : A) (rest : Text) (g : (room : ℕ) → IsRoomAt now.rest room → item room seen now.gap now.rest ≡ got a rest) where
-        pub comma_fails : (e : Error) → IsMemoryOr (past_item close rest ≡ None) e → (room : ℕ) → IsRoomAt old.rest room → IsFaultOf (class_of e) (group room [] old.gap old.rest)
+        pub comma_fails : (e : Error) → IsMemoryOr (past_item close rest ≡ None) e → (room : ℕ) → IsRoomAt old.rest room
+            → IsFaultOf (class_of e) (group room [] old.gap old.rest)
         comma_fails e t room r = is_fault (class_of e) _ (memory_or_more e open_still t)
           where
             open_still : past_item close rest ≡ None → group room [] old.gap old.rest ≡ failed bad
@@ -132,18 +150,23 @@ module _ {A B : Type 0} (item : ℕ → List A → Text → Text → Got A) (gro
                 read_here : item room seen now.gap now.rest ≡ got a rest
                 read_here = g room (room_now room r)
 
-                at_gap : (b : Bool) → is_at 47 (skip rest) ≡ b → cond b None (at_item close (gap_of rest) (skip rest)) ≡ None → group room seen now.gap now.rest ≡ failed bad
-                at_gap true k q = turns.stays_open room seen now.gap now.rest still a rest read_here (is_at_other 47 44 (skip rest) k refl) (is_at_other 47 close (skip rest) k turns.no_slash)
+                at_gap : (b : Bool) → is_at 47 (skip rest) ≡ b → cond b None (at_item close (gap_of rest) (skip rest)) ≡ None
+                    → group room seen now.gap now.rest ≡ failed bad
+                at_gap true k q = turns.stays_open room seen now.gap now.rest still a rest read_here (is_at_other 47 44 (skip rest) k refl)
+                    (is_at_other 47 close (skip rest) k turns.no_slash)
                 at_gap false k q = elim (comma_none close (gap_of rest) (skip rest) q) [
                   | inl n ↦ turns.stays_open room seen now.gap now.rest still a rest read_here n.0 n.1
                   | inr n ↦ turns.goes_on room seen now.gap now.rest still a rest n.0 read_here n.1 ∙ after_slash (group room (a ∷ seen)) n.0 n.2
                 ]
 
         pub one_more : (next : Place) → past_item close rest ≡ Some (next.gap, next.rest) → length next.rest ≤ length now.rest → ItemsRead (a ∷ seen) old next
-        one_more next c shorter = record { no_longer = omega (arith, shorter, z.no_longer); reads = λ room r. z.reads room r ∙ step room (g room (room_now room r)) }
+        one_more next c shorter =
+            record { no_longer = omega (arith, shorter, z.no_longer); reads = λ room r. z.reads room r ∙ step room (g room (room_now room r)) }
           where
             step : (room : ℕ) → item room seen now.gap now.rest ≡ got a rest → group room seen now.gap now.rest ≡ group room (a ∷ seen) next.gap next.rest
-            step room e = elim (comma_cases close (gap_of rest) (skip rest) next.gap next.rest (unless_some rest _ (next.gap, next.rest) (sym (item_is close rest) ∙ c)).1) [
-              | inl p ↦ turns.goes_on room seen now.gap now.rest still a rest p.0 e p.1 ∙ after_other (group room (a ∷ seen)) p.0 p.2 ∙ ap₂ (group room (a ∷ seen)) p.3 p.4
-              | inr p ↦ turns.last room seen now.gap now.rest still a rest p.0 e p.1 ∙ sym (turns.over room (a ∷ seen) next.gap next.rest p.0 (sym p.2))
-            ]
+            step room e = elim
+                (comma_cases close (gap_of rest) (skip rest) next.gap next.rest (unless_some rest _ (next.gap, next.rest) (sym (item_is close rest) ∙ c)).1) [
+                  | inl p ↦ turns.goes_on room seen now.gap now.rest still a rest p.0 e p.1 ∙ after_other (group room (a ∷ seen)) p.0 p.2
+                      ∙ ap₂ (group room (a ∷ seen)) p.3 p.4
+                  | inr p ↦ turns.last room seen now.gap now.rest still a rest p.0 e p.1 ∙ sym (turns.over room (a ∷ seen) next.gap next.rest p.0 (sym p.2))
+                ]

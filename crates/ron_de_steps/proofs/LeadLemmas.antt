@@ -65,7 +65,8 @@ module _ (old new : Place) (e : new.text ≡ old.text) where
   inside_some h f reached = record {
     bracket = 40;
     opens = refl;
-    leads = subst (λ s. Leads s (40 ∷ new.rest)) (sym e) (leads_on reached (leads_on (leads_some old.rest h) (subst (Leads (drop 4 old.rest)) f (leads_gap (drop 4 old.rest)))));
+    leads = subst (λ s. Leads s (40 ∷ new.rest)) (sym e)
+        (leads_on reached (leads_on (leads_some old.rest h) (subst (Leads (drop 4 old.rest)) f (leads_gap (drop 4 old.rest)))));
   }
 
   -- ---- behind a value

@@ -1,5 +1,6 @@
 -- Where steps lead: no more is left behind a word, a gap or a mark, and before a value stands a mark that no look goes over.
-use Rattle.std.proofs.Common.{◌≡◌, ℕ, ◌==◌, ◌≤◌, ◌+◌, ◌⊎◌, inl, inr, Bool, true, false, cond, not, [], ◌∷◌, ◌++◌, codes, drop, Option, Some, None, Result, Ok, Err, OnOk, eqb-true, refl, sym, ap, ◌∙◌, arith}
+use Rattle.std.proofs.Common.{◌≡◌, ℕ, ◌==◌, ◌≤◌, ◌+◌, ◌⊎◌, inl, inr, Bool, true, false, cond, not, [], ◌∷◌, ◌++◌, codes, drop, Option, Some, None, Result, Ok}
+use Rattle.std.proofs.Common.{Err, OnOk, eqb-true, refl, sym, ap, ◌∙◌, arith}
 use Rattle.std.proofs.lemmas.Bool.{and_parts}
 use Rattle.std.proofs.lemmas.Option.{same_Some}
 use Rattle.ron_spec_words.specs.Characters.{Text}
@@ -26,10 +27,12 @@ use Rattle.ron_spec_words.proofs.Ranges.{word_number_or_range}
 use Rattle.ron_spec_words.proofs.Tokens.{starts_clear}
 use Rattle.ron_spec_words.proofs.Walks.{is_other, run_other}
 use Rattle.ron_spec_words.proofs.Sizes.{size_append, size_one, size_end, size_skip, word_stays, beyond_plain, beyond_no_more}
-use Rattle.ron_spec_words.proofs.Eases.{name_eases, untyped_name_eases, string_eases, byte_string_eases, char_eases, any_integer_eases, number_or_range_eases, gap_eases, mark_eases, front_eases, plain_first}
+use Rattle.ron_spec_words.proofs.Eases.{name_eases, untyped_name_eases, string_eases, byte_string_eases, char_eases, any_integer_eases, number_or_range_eases}
+use Rattle.ron_spec_words.proofs.Eases.{gap_eases, mark_eases, front_eases, plain_first}
 use Rattle.ron_base.specs.declared.error.Error.{Error}
 use Rattle.ron_lex.specs.Place.{Place}
-use Rattle.ron_de_steps.specs.Steps.{unless_slash, past_mark, past_colon, past_close, past_comma, at_comma, past_item, past_last_comma, behind_mark, behind_comma, GoesTo}
+use Rattle.ron_de_steps.specs.Steps.{unless_slash, past_mark, past_colon, past_close, past_comma, at_comma, past_item, past_last_comma, behind_mark}
+use Rattle.ron_de_steps.specs.Steps.{behind_comma, GoesTo}
 use Rattle.ron_de_steps.specs.Spends.{Nears, Opens, Enters}
 use Rattle.ron_de_steps.proofs.StepLemmas.{unless_some}
 use Rattle.ron_de_steps.proofs.ItemLemmas.{at_item, item_is}
@@ -51,7 +54,8 @@ enters_nears old new h = record { less = omega (arith, h.with_gap); eases = omeg
 -- ---- words
 
 pub gap_nears : (old new : Place) → new.rest ≡ skip old.rest → Nears old new
-gap_nears old new e = record { less = omega (arith, ap bytes_in e, size_skip old.rest); eases = omega (arith, ap (λ s. bytes_in (beyond s)) e, gap_eases old.rest) }
+gap_nears old new e =
+    record { less = omega (arith, ap bytes_in e, size_skip old.rest); eases = omega (arith, ap (λ s. bytes_in (beyond s)) e, gap_eases old.rest) }
 
 less_behind : {A : Type 0} (r : Reader A) (L : Lang A) → Sound r L → (s : Text) (a : A) (u : Text) → r s ≡ got a u → bytes_in u ≤ bytes_in s
 less_behind r L sound s a u e = let y = sound s a u e in size_end y.stretch u s y.split
@@ -60,25 +64,30 @@ pub name_nears : (n : Text) (old new : Place) → name old.rest ≡ got n new.re
 name_nears n old new e = record { less = less_behind name _ word_name.sound old.rest n new.rest e; eases = name_eases old.rest n new.rest e }
 
 pub untyped_name_nears : (n : Text) (old new : Place) → untyped_name old.rest ≡ got n new.rest → Nears old new
-untyped_name_nears n old new e = record { less = less_behind untyped_name _ word_untyped_name.sound old.rest n new.rest e; eases = untyped_name_eases old.rest n new.rest e }
+untyped_name_nears n old new e =
+    record { less = less_behind untyped_name _ word_untyped_name.sound old.rest n new.rest e; eases = untyped_name_eases old.rest n new.rest e }
 
 pub string_nears : (a : Text) (old new : Place) → string old.rest ≡ got a new.rest → Nears old new
 string_nears a old new e = record { less = less_behind string _ word_string.sound old.rest a new.rest e; eases = string_eases old.rest a new.rest e }
 
 pub byte_string_nears : (a : Text) (old new : Place) → byte_string old.rest ≡ got a new.rest → Nears old new
-byte_string_nears a old new e = record { less = less_behind byte_string _ word_byte_string.sound old.rest a new.rest e; eases = byte_string_eases old.rest a new.rest e }
+byte_string_nears a old new e =
+    record { less = less_behind byte_string _ word_byte_string.sound old.rest a new.rest e; eases = byte_string_eases old.rest a new.rest e }
 
 pub char_nears : (c : ℕ) (old new : Place) → char old.rest ≡ got c new.rest → Nears old new
 char_nears c old new e = record { less = less_behind char _ word_char.sound old.rest c new.rest e; eases = char_eases old.rest c new.rest e }
 
 pub any_integer_nears : (n : Numeral) (old new : Place) → any_integer old.rest ≡ got n new.rest → Nears old new
-any_integer_nears n old new e = record { less = less_behind any_integer _ word_any_integer.sound old.rest n new.rest e; eases = any_integer_eases old.rest n new.rest e }
+any_integer_nears n old new e =
+    record { less = less_behind any_integer _ word_any_integer.sound old.rest n new.rest e; eases = any_integer_eases old.rest n new.rest e }
 
 pub number_or_range_nears : (i : Interval) (old new : Place) → number_or_range old.rest ≡ got i new.rest → Nears old new
-number_or_range_nears i old new e = record { less = less_behind number_or_range _ word_number_or_range.sound old.rest i new.rest e; eases = number_or_range_eases old.rest i new.rest e }
+number_or_range_nears i old new e =
+    record { less = less_behind number_or_range _ word_number_or_range.sound old.rest i new.rest e; eases = number_or_range_eases old.rest i new.rest e }
 
 -- a fixed word in which no gap begins
-pub front_nears : (front : Text) (old new : Place) → Every (λ c. not (starts_gap c)) front → is_at 114 (front ++ new.rest) ≡ false → old.rest ≡ front ++ new.rest → Nears old new
+pub front_nears : (front : Text) (old new : Place) → Every (λ c. not (starts_gap c)) front → is_at 114 (front ++ new.rest) ≡ false
+    → old.rest ≡ front ++ new.rest → Nears old new
 front_nears front old new clear plain e = record {
   less = size_end front new.rest old.rest e;
   eases = front_eases front old.rest new.rest clear (ap (is_at 114) e ∙ plain) e;
@@ -185,7 +194,8 @@ pub gap_splits : (old new : Place) → new.gap ≡ gap_of old.rest → new.rest 
 gap_splits old new e f = gap_and_rest old.rest new.gap new.rest (sym e) (sym f)
 
 -- from before a gap, over it and a mark, and over the gap behind that
-behind_mark_and_gap : (c : ℕ) (old new : Place) (s u : Text) → IsMark c → bytes_in s ≤ bytes_in old.rest → bytes_in (beyond s) ≤ bytes_in (beyond old.rest) → s ≡ c ∷ u → gap_of u ≡ new.gap → skip u ≡ new.rest → Enters old new
+behind_mark_and_gap : (c : ℕ) (old new : Place) (s u : Text) → IsMark c → bytes_in s ≤ bytes_in old.rest → bytes_in (beyond s) ≤ bytes_in (beyond old.rest)
+    → s ≡ c ∷ u → gap_of u ≡ new.gap → skip u ≡ new.rest → Enters old new
 behind_mark_and_gap c old new s u m less eases e f h = record {
   with_gap = omega (arith, gap_and_rest u new.gap new.rest f h, size_one c u, ap bytes_in e, less);
   past = omega (arith, gap_and_rest u new.gap new.rest f h, past_of_mark c u m, ap (λ s. bytes_in (beyond s)) e, eases);
@@ -211,7 +221,8 @@ marked_at c (d ∷ u) g t e = go (d == c) refl e
     go false h k = absurd (cc)
 
 pub past_mark_enters : (c : ℕ) (old new : Place) → IsMark c → past_mark c old.rest ≡ Some (new.gap, new.rest) → Enters old new
-past_mark_enters c old new m e = let z = marked_at c old.rest new.gap new.rest e in behind_mark_and_gap c old new old.rest z.more m (omega arith) (omega arith) z.is z.gap z.rest
+past_mark_enters c old new m e = let z = marked_at c old.rest new.gap new.rest e in
+    behind_mark_and_gap c old new old.rest z.more m (omega arith) (omega arith) z.is z.gap z.rest
 
 pub past_colon_enters : (old new : Place) → past_colon old.rest ≡ Some (new.gap, new.rest) → Enters old new
 past_colon_enters old new e =
@@ -232,12 +243,18 @@ comma_at gap [] passed g t e =
     record { passes = λ p. absurd (cc); stays = λ p. (ap (λ (z : Bool × (Text × Text)). z.1.0) same, ap (λ (z : Bool × (Text × Text)). z.1.1) same) }
 comma_at gap (c ∷ u) passed g t e = go (c == 44) refl e
   where
-    go : (b : Bool) → (c == 44) ≡ b → cond {A = Option (Bool × (Text × Text))} b (unless_slash {A = Bool × (Text × Text)} u (Some (true, (gap_of u, skip u)))) (Some (false, (gap, c ∷ u))) ≡ Some (passed, (g, t)) → Commaed (c ∷ u) gap passed g t
+    go : (b : Bool) → (c == 44) ≡ b → cond {A = Option (Bool × (Text × Text))} b (unless_slash {A = Bool × (Text × Text)} u (Some (true, (gap_of u, skip u))))
+        (Some (false, (gap, c ∷ u))) ≡ Some (passed, (g, t)) → Commaed (c ∷ u) gap passed g t
     go true h k =
         let same = same_Some (true, (gap_of u, skip u)) (passed, (g, t)) (unless_some u (Some (true, (gap_of u, skip u))) (passed, (g, t)) k).1 in
         let was : true ≡ passed = ap (λ (z : Bool × (Text × Text)). z.0) same in
         record {
-          passes = λ p. record { more = u; is = ap (λ z. z ∷ u) (eqb-true c 44 h); gap = ap (λ (z : Bool × (Text × Text)). z.1.0) same; rest = ap (λ (z : Bool × (Text × Text)). z.1.1) same };
+          passes = λ p. record {
+            more = u;
+            is = ap (λ z. z ∷ u) (eqb-true c 44 h);
+            gap = ap (λ (z : Bool × (Text × Text)). z.1.0) same;
+            rest = ap (λ (z : Bool × (Text × Text)). z.1.1) same;
+          };
           stays = λ p. absurd (cc);
         }
     go false h k =
@@ -262,7 +279,8 @@ past_comma_nears false old new e = gap_nears old new (sym ((commaed old.rest fal
 -- ---- a comma, or the closing character
 
 -- at the closing character no look goes over anything
-close_enters : (close : ℕ) (old new : Place) (u : Text) → IsMark close → skip old.rest ≡ close ∷ u → gap_of old.rest ≡ new.gap → skip old.rest ≡ new.rest → Enters old new
+close_enters : (close : ℕ) (old new : Place) (u : Text) → IsMark close → skip old.rest ≡ close ∷ u → gap_of old.rest ≡ new.gap → skip old.rest ≡ new.rest
+    → Enters old new
 close_enters close old new u m e f h = record {
   with_gap = omega (arith, gap_and_rest old.rest new.gap new.rest f h);
   past = omega (arith, ap bytes_in (sym h ∙ e), ap bytes_in (at_mark close u m), ap (λ s. bytes_in (beyond s)) e, gap_eases old.rest);
@@ -272,7 +290,8 @@ pub item_cases : (close : ℕ) (gap s g t : Text) → at_item close gap s ≡ So
 item_cases close gap [] g t e = absurd (cc)
 item_cases close gap (c ∷ u) g t e = go (c == 44) refl (c == close) refl e
   where
-    go : (a : Bool) → (c == 44) ≡ a → (b : Bool) → (c == close) ≡ b → cond {A = Option (Text × Text)} a (unless_slash u (Some (gap_of u, skip u))) (cond b (Some (gap, c ∷ u)) None) ≡ Some (g, t)
+    go : (a : Bool) → (c == 44) ≡ a → (b : Bool) → (c == close) ≡ b
+        → cond {A = Option (Text × Text)} a (unless_slash u (Some (gap_of u, skip u))) (cond b (Some (gap, c ∷ u)) None) ≡ Some (g, t)
         → Marked 44 (c ∷ u) g t ⊎ ((v : Text) × (c ∷ u ≡ close ∷ v) × (gap ≡ g) × (c ∷ u ≡ t))
     go true h b p k =
         let same = same_Some (gap_of u, skip u) (g, t) (unless_some u (Some (gap_of u, skip u)) (g, t) k).1 in
@@ -296,16 +315,20 @@ past_item_enters close old new m e =
 -- behind the word, a gap and the parenthesis
 pub some_opens : (old inner : Place) → stands (codes "Some") old.rest ≡ true → skip (drop 4 old.rest) ≡ 40 ∷ inner.rest → Opens old inner
 some_opens old inner e f =
-    let word : Place = record { text = old.text; rest = drop 4 old.rest; token_start = old.token_start; gap = old.gap; counted = old.counted; turns = old.turns } in
+    let word : Place =
+    record { text = old.text; rest = drop 4 old.rest; token_start = old.token_start; gap = old.gap; counted = old.counted; turns = old.turns } in
     let near = some_nears old word (some_front old.rest e) in
     omega (arith, past_of_mark 40 inner.rest mark_left_parenthesis, ap (λ s. bytes_in (beyond s)) f, gap_eases word.rest, near.eases)
 
 -- and behind the gap that follows
-pub some_enters : (old inner new : Place) → stands (codes "Some") old.rest ≡ true → skip (drop 4 old.rest) ≡ 40 ∷ inner.rest → new.gap ≡ gap_of inner.rest → new.rest ≡ skip inner.rest → Enters old new
+pub some_enters : (old inner new : Place) → stands (codes "Some") old.rest ≡ true → skip (drop 4 old.rest) ≡ 40 ∷ inner.rest → new.gap ≡ gap_of inner.rest
+    → new.rest ≡ skip inner.rest → Enters old new
 some_enters old inner new e f g h =
-    let word : Place = record { text = old.text; rest = drop 4 old.rest; token_start = old.token_start; gap = old.gap; counted = old.counted; turns = old.turns } in
+    let word : Place =
+    record { text = old.text; rest = drop 4 old.rest; token_start = old.token_start; gap = old.gap; counted = old.counted; turns = old.turns } in
     let near = some_nears old word (some_front old.rest e) in
-    behind_mark_and_gap 40 old new (skip word.rest) inner.rest mark_left_parenthesis (omega (arith, size_skip word.rest, near.less)) (omega (arith, gap_eases word.rest, near.eases)) f (sym g) (sym h)
+    behind_mark_and_gap 40 old new (skip word.rest) inner.rest mark_left_parenthesis (omega (arith, size_skip word.rest, near.less))
+    (omega (arith, gap_eases word.rest, near.eases)) f (sym g) (sym h)
 
 -- ---- the end of what stands in brackets
 
@@ -318,7 +341,8 @@ closed_at c (d ∷ u) t e = go (d == c) refl e
     go false h k = absurd (cc)
 
 pub past_close_nears : (close : ℕ) (old new : Place) → IsMark close → past_close close old.rest ≡ Some new.rest → Nears old new
-past_close_nears close old new m e = behind_gap close old new m (closed_at close (skip old.rest) new.rest (unless_some old.rest (behind_mark close (skip old.rest)) new.rest e).1)
+past_close_nears close old new m e =
+    behind_gap close old new m (closed_at close (skip old.rest) new.rest (unless_some old.rest (behind_mark close (skip old.rest)) new.rest e).1)
 
 -- over the comma that stands there, if one does
 pub behind_comma_nears : (old new : Place) → behind_comma old.rest ≡ new.rest → Nears old new
@@ -342,7 +366,8 @@ behind_comma_nears old new e = record { less = less old.rest new.rest e; eases =
 
 pub past_last_nears : (old new : Place) → past_last_comma old.rest ≡ Some new.rest → Nears old new
 past_last_nears old new e =
-    let there : Place = record { text = old.text; rest = skip old.rest; token_start = old.token_start; gap = old.gap; counted = old.counted; turns = old.turns } in
+    let there : Place =
+    record { text = old.text; rest = skip old.rest; token_start = old.token_start; gap = old.gap; counted = old.counted; turns = old.turns } in
     let led = same_Some (behind_comma (skip old.rest)) new.rest (unless_some old.rest (Some (behind_comma (skip old.rest))) new.rest e).1 in
     nears_on old there new (gap_nears old there refl) (behind_comma_nears there new led)
 
@@ -353,7 +378,8 @@ module _ {A : Type 0} (old : Place) where
   gap_goes (Ok a) new h = gap_nears old new h
   gap_goes (Err e) new h = tt
 
-  pub item_goes : (close : ℕ) (r : Result A Error) (new : Place) → IsMark close → GoesTo (past_item close old.rest) r (new.gap, new.rest) → OnOk r (Enters old new)
+  pub item_goes : (close : ℕ) (r : Result A Error) (new : Place) → IsMark close → GoesTo (past_item close old.rest) r (new.gap, new.rest)
+      → OnOk r (Enters old new)
   item_goes close (Ok a) new m h = past_item_enters close old new m h
   item_goes close (Err e) new m h = tt
 

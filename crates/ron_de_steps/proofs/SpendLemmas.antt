@@ -46,7 +46,8 @@ unfolding total_before
 turns_before c k m place = omega arith
 
 -- all that may be counted from a place before a value, by the bytes that are left alone
-pub before_most : (c k m : ℕ) (place : Place) → m ≤ 4 * suc k → total_before c k m place ≤ place.turns + c * bytes_in place.gap + suc c * bytes_in place.rest + 4 * suc k * bytes_in place.rest
+pub before_most : (c k m : ℕ) (place : Place) → m ≤ 4 * suc k
+    → total_before c k m place ≤ place.turns + c * bytes_in place.gap + suc c * bytes_in place.rest + 4 * suc k * bytes_in place.rest
 unfolding total_before allowed settled look
 before_most c k m place le =
     let b : ℕ = bytes_in (beyond place.rest) in
@@ -81,7 +82,8 @@ opens_allows c k old new over h =
     omega (arith, over, gone, far)
 
 -- and over that gap, to before a value
-pub inside_allows : (c k m : ℕ) (old new : Place) → m ≤ 4 * suc k → GoesOver 1 old new → bytes_in new.gap + bytes_in new.rest ≡ bytes_in old.rest → total_before c k m new ≤ total_inside c k old
+pub inside_allows : (c k m : ℕ) (old new : Place) → m ≤ 4 * suc k → GoesOver 1 old new → bytes_in new.gap + bytes_in new.rest ≡ bytes_in old.rest
+    → total_before c k m new ≤ total_inside c k old
 unfolding total_inside
 inside_allows c k m old new le over gap =
     let all : c * (bytes_in new.gap + bytes_in new.rest) ≡ c * bytes_in old.rest = ap (λ n. c * n) gap in
@@ -95,7 +97,8 @@ looks_leave c k d m n old new le stays looks =
     let b : ℕ = bytes_in (beyond old.rest) in
     let gap : c * bytes_in new.gap ≡ c * bytes_in old.gap = ap (λ s. c * bytes_in s) stays.gap in
     let rest : settled c k new.rest ≡ settled c k old.rest = ap (settled c k) stays.rest in
-    let same : m * (bytes_in new.rest - bytes_in (beyond new.rest)) ≡ m * (bytes_in old.rest - b) = ap (λ s. m * (bytes_in s - bytes_in (beyond s))) stays.rest in
+    let same : m * (bytes_in new.rest - bytes_in (beyond new.rest)) ≡ m * (bytes_in old.rest - b) =
+    ap (λ s. m * (bytes_in s - bytes_in (beyond s))) stays.rest in
     let all : d * b + d * (bytes_in old.rest - b) ≡ d * bytes_in old.rest = sums d b (bytes_in old.rest - b) (bytes_in old.rest) (parts old.rest) in
     let most : (d + m) * (bytes_in old.rest - b) ≤ n * (bytes_in old.rest - b) = mul-le-mul_right (bytes_in old.rest - b) le in
     omega (arith, gap, rest, same, looks, all, most)

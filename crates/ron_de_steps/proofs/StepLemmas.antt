@@ -10,7 +10,8 @@ use Rattle.ron_spec_words.proofs.Turns.{after_slash, after_other}
 use Rattle.ron_de_steps.specs.Steps.{unless_slash, past_mark, past_colon, past_close, past_last_comma, behind_mark, behind_comma}
 
 pub unless_some : {A : Type 0} (s : Text) (next : Option A) (a : A) → unless_slash s next ≡ Some a → (is_at 47 (skip s) ≡ false) × (next ≡ Some a)
-unless_some s next a = elim (is_at 47 (skip s)) as (λ b. cond b None next ≡ Some a → (b ≡ false) × (next ≡ Some a)) [ true ↦ λ e. absurd (cc) | false ↦ λ e. (refl, e) ]
+unless_some s next a =
+    elim (is_at 47 (skip s)) as (λ b. cond b None next ≡ Some a → (b ≡ false) × (next ≡ Some a)) [ true ↦ λ e. absurd (cc) | false ↦ λ e. (refl, e) ]
 
 pub unless_none : {A : Type 0} (s : Text) (a : A) → unless_slash s (Some a) ≡ None → is_at 47 (skip s) ≡ true
 unless_none s a = elim (is_at 47 (skip s)) as (λ b. cond b None (Some a) ≡ None → b ≡ true) [ true ↦ λ e. refl | false ↦ λ e. absurd (cc) ]
@@ -22,26 +23,33 @@ module _ {A : Type 0} (c : ℕ) (q : Text → Reader A) where
   marked [] p e = absurd (cc)
   marked (d ∷ s) p e = go (d == c) e
     where
-      go : (b : Bool) → cond {A = Option (Text × Text)} b (unless_slash s (Some (gap_of s, skip s))) None ≡ Some p → and_then (cond b (got done s) (failed bad)) (λ _ gap. q gap) ≡ q p.0 p.1
-      go true k = let n = unless_some s (Some (gap_of s, skip s)) p k in let same = same_Some (gap_of s, skip s) p n.1 in after_other q s n.0 ∙ ap (λ (z : Text × Text). q z.0 z.1) same
+      go : (b : Bool) → cond {A = Option (Text × Text)} b (unless_slash s (Some (gap_of s, skip s))) None ≡ Some p
+          → and_then (cond b (got done s) (failed bad)) (λ _ gap. q gap) ≡ q p.0 p.1
+      go true k = let n = unless_some s (Some (gap_of s, skip s)) p k in
+          let same = same_Some (gap_of s, skip s) p n.1 in
+          after_other q s n.0 ∙ ap (λ (z : Text × Text). q z.0 z.1) same
       go false k = absurd (cc)
 
   pub unmarked : (s : Text) → past_mark c s ≡ None → in_sequence (mark c done) (λ _ gap. q gap) s ≡ failed bad
   unmarked [] e = refl
   unmarked (d ∷ s) e = go (d == c) e
     where
-      go : (b : Bool) → cond {A = Option (Text × Text)} b (unless_slash s (Some (gap_of s, skip s))) None ≡ None → and_then (cond b (got done s) (failed bad)) (λ _ gap. q gap) ≡ failed bad
+      go : (b : Bool) → cond {A = Option (Text × Text)} b (unless_slash s (Some (gap_of s, skip s))) None ≡ None
+          → and_then (cond b (got done s) (failed bad)) (λ _ gap. q gap) ≡ failed bad
       go true k = after_slash q s (unless_none s (gap_of s, skip s) k)
       go false k = refl
 
 -- likewise behind a gap, for a colon
-pub behind_colon : {A : Type 0} (q : Text → Reader A) (s : Text) (p : Text × Text) → past_colon s ≡ Some p → after_gap (λ _. in_sequence (mark 58 done) (λ _ gap. q gap)) s ≡ q p.0 p.1
-behind_colon q s p e = let n = unless_some s (past_mark 58 (skip s)) p e in after_other (λ _. in_sequence (mark 58 done) (λ _ gap. q gap)) s n.0 ∙ marked 58 q (skip s) p n.1
+pub behind_colon : {A : Type 0} (q : Text → Reader A) (s : Text) (p : Text × Text) → past_colon s ≡ Some p
+    → after_gap (λ _. in_sequence (mark 58 done) (λ _ gap. q gap)) s ≡ q p.0 p.1
+behind_colon q s p e = let n = unless_some s (past_mark 58 (skip s)) p e in
+    after_other (λ _. in_sequence (mark 58 done) (λ _ gap. q gap)) s n.0 ∙ marked 58 q (skip s) p n.1
 
 pub no_colon : {A : Type 0} (q : Text → Reader A) (s : Text) → past_colon s ≡ None → after_gap (λ _. in_sequence (mark 58 done) (λ _ gap. q gap)) s ≡ failed bad
 no_colon q s e = go (is_at 47 (skip s)) refl e
   where
-    go : (b : Bool) → is_at 47 (skip s) ≡ b → cond b None (past_mark 58 (skip s)) ≡ None → after_gap (λ _. in_sequence (mark 58 done) (λ _ gap. q gap)) s ≡ failed bad
+    go : (b : Bool) → is_at 47 (skip s) ≡ b → cond b None (past_mark 58 (skip s)) ≡ None
+        → after_gap (λ _. in_sequence (mark 58 done) (λ _ gap. q gap)) s ≡ failed bad
     go true m k = after_slash (λ _. in_sequence (mark 58 done) (λ _ gap. q gap)) s m
     go false m k = after_other (λ _. in_sequence (mark 58 done) (λ _ gap. q gap)) s m ∙ unmarked 58 q (skip s) k
 

@@ -1,7 +1,8 @@
 -- The errors of reading a value.
 use Rattle.std.specs.Prelude.{◌≡◌}
 use Rattle.ron_base.specs.declared.error.Error.{Error}
-use Rattle.ron_base.specs.declared.error.Error.TheVariants.{OutOfMemory, Fmt, Io, ExpectedFloat, FloatUnderscore, Utf8Error, TrailingCharacters, InvalidIdentifier, Failed, InvalidSchema}
+use Rattle.ron_base.specs.declared.error.Error.TheVariants.{OutOfMemory, Fmt, Io, ExpectedFloat, FloatUnderscore, Utf8Error, TrailingCharacters}
+use Rattle.ron_base.specs.declared.error.Error.TheVariants.{InvalidIdentifier, Failed, InvalidSchema}
 use Rattle.ron_lex.specs.declared.fault.StringRefusal.{StringRefusal}
 use Rattle.ron_base.specs.Class.{ErrorClass, memory, depth, other, class_of}
 

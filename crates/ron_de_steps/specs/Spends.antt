@@ -12,7 +12,8 @@ use Rattle.ron_lex.specs.Place.{Place}
 unfoldable pub look : Text → ℕ
 look s = bytes_in s - bytes_in (beyond s)
 
--- What may be gone over from behind a value on, where no chain has more than k members: each byte once as it is gone past, and c times besides; and what stands beyond the words here by all looks, of which there are at most four times k + 1 at a place.
+-- What may be gone over from behind a value on, where no chain has more than k members: each byte once as it is gone past, and c times besides; and what stands
+-- beyond the words here by all looks, of which there are at most four times k + 1 at a place.
 unfoldable pub settled : ℕ → ℕ → Text → ℕ
 settled c k s = suc c * bytes_in s + 4 * suc k * bytes_in (beyond s)
 
@@ -51,7 +52,8 @@ Settles c k old result new = KeepsTo c k (total_behind c k old) result new
 abbrev pub SpendsInside : {A E : Type 0} → ℕ → ℕ → Place → Result A E → Place → Type 0
 SpendsInside c k old result new = KeepsTo c k (total_inside c k old) result new
 
--- how often each byte is paid for besides: where a raw text is read, it and the gaps around it are read once more; where a schema is read by, bare content that is none twice more
+-- how often each byte is paid for besides: where a raw text is read, it and the gaps around it are read once more; where a schema is read by, bare content that
+-- is none twice more
 abbrev pub raw_besides : ℕ
 raw_besides = 17
 

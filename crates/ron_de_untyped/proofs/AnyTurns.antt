@@ -1,5 +1,6 @@
 -- The reader function of values a step at a time: one equation for each case, for code that reads in the same order.
-use Rattle.std.proofs.Common.{◌≡◌, ℕ, zero, suc, ◌≤◌, ◌==◌, Bool, true, false, cond, List, [], ◌∷◌, length, Option, Some, None, codes, encode_utf8_all, refl, sym, ap, subst, ◌∙◌, arith, length-append}
+use Rattle.std.proofs.Common.{◌≡◌, ℕ, zero, suc, ◌≤◌, ◌==◌, Bool, true, false, cond, List, [], ◌∷◌, length, Option, Some, None, codes, encode_utf8_all, refl}
+use Rattle.std.proofs.Common.{sym, ap, subst, ◌∙◌, arith, length-append}
 use Rattle.std.proofs.lemmas.Bool.{le-leb}
 use Rattle.ron_spec_words.specs.Characters.{Text}
 use Rattle.ron_spec_words.specs.Gap.{skip, gap_of}
@@ -18,7 +19,8 @@ use Rattle.ron_value.specs.Tree.{Tree}
 use Rattle.ron_value.specs.Tree as tree
 use Rattle.ron_spec_grammar.specs.Shapes.Unit.{empty_brackets}
 use Rattle.ron_spec_grammar.specs.Values.Trees.{Entry}
-use Rattle.ron_spec_grammar.specs.Values.Grammar.{a_character, a_string, a_byte_string, a_list, a_map, a_group, a_number, a_word, form, character_value, text_value, bytes_value, unit_value, interval_value, entry_with, read_any, fields_value, map_value}
+use Rattle.ron_spec_grammar.specs.Values.Grammar.{a_character, a_string, a_byte_string, a_list, a_map, a_group, a_number, a_word, form, character_value}
+use Rattle.ron_spec_grammar.specs.Values.Grammar.{text_value, bytes_value, unit_value, interval_value, entry_with, read_any, fields_value, map_value}
 use Rattle.ron_spec_grammar.proofs.Values.Place.{sound}
 use Rattle.ron_de_steps.proofs.StepLemmas.{marked, unmarked, closing, with_last}
 use Rattle.ron_de_steps.specs.Steps.{past_mark}
@@ -27,7 +29,8 @@ use Rattle.ron_de_untyped.specs.declared.entries.Keys.TheVariants.{Names, Values
 use Rattle.ron_de_untyped.specs.declared.groups.Brackets as brackets
 use Rattle.ron_de_untyped.specs.declared.groups.Brackets.TheVariants as brackets_
 use Rattle.ron_de_untyped.specs.Group.{open_mark, close_mark}
-use Rattle.ron_de_untyped.specs.Reading.{read_below, read_items, items_value, read_sequence, read_key, read_entry, value_of, read_entries, read_mapping, read_inside, read_group, read_some, read_word}
+use Rattle.ron_de_untyped.specs.Reading.{read_below, read_items, items_value, read_sequence, read_key, read_entry, value_of, read_entries, read_mapping}
+use Rattle.ron_de_untyped.specs.Reading.{read_inside, read_group, read_some, read_word}
 use Rattle.ron_de_untyped.specs.Words.{fixed_or, some_or, named_or}
 
 module _ (u : Bool) where
@@ -80,7 +83,8 @@ module _ (u : Bool) where
     unfolding read_any read_word
     value_word e = rw e refl
 
-    pub word_is : read_word u room s ≡ fixed_or (some_or (read_some u room) (named_or (λ t. read_group brackets_.Group u room t) (means untyped_name unit_value))) s
+    pub word_is : read_word u room s
+        ≡ fixed_or (some_or (read_some u room) (named_or (λ t. read_group brackets_.Group u room t) (means untyped_name unit_value))) s
     unfolding read_word read_some read_group read_inside
     word_is = refl
 
@@ -161,11 +165,13 @@ module _ (u : Bool) (before s : Text) where
   mapping_here Names room = rw (le-leb 1 (suc room) (omega arith)) refl
   mapping_here Values room = rw (le-leb 1 (suc room) (omega arith)) refl
 
-  pub entry_is : (keys : Keys) (room : ℕ) → read_entry keys u room before s ≡ and_then (read_key keys u room before s) (λ key _. in_sequence (mark 58 done) (λ _ gap. value_of u room key gap))
+  pub entry_is : (keys : Keys) (room : ℕ)
+      → read_entry keys u room before s ≡ and_then (read_key keys u room before s) (λ key _. in_sequence (mark 58 done) (λ _ gap. value_of u room key gap))
   unfolding read_entry read_below
   entry_is Names room = go (name s)
     where
-      go : (o : Got Text) → and_then o (λ n _. in_sequence (mark 58 done) (λ _ gap. value_of u room (tree.text (encode_utf8_all n)) gap)) ≡ and_then (meant o (λ n. Some (tree.text (encode_utf8_all n)))) (λ key _. in_sequence (mark 58 done) (λ _ gap. value_of u room key gap))
+      go : (o : Got Text) → and_then o (λ n _. in_sequence (mark 58 done) (λ _ gap. value_of u room (tree.text (encode_utf8_all n)) gap))
+          ≡ and_then (meant o (λ n. Some (tree.text (encode_utf8_all n)))) (λ key _. in_sequence (mark 58 done) (λ _ gap. value_of u room key gap))
       go (got n rest) = refl
       go (failed x) = refl
   entry_is Values room = refl
@@ -207,7 +213,8 @@ at_most_mark {A} c a (d ∷ s) b rest e = go (d == c) e
 
 at_most_below : (u : Bool) (room : ℕ) (before : Text) → AtMost (read_below u room before)
 at_most_below u zero before s t rest e = absurd (let d = below_deep u before s in cc)
-at_most_below u (suc room) before s t rest e = let k = sound u room before s rest t (sym (below_here u room before s) ∙ e) in omega (arith, ap length k.split, length-append k.stretch rest)
+at_most_below u (suc room) before s t rest e = let k = sound u room before s rest t (sym (below_here u room before s) ∙ e) in
+    omega (arith, ap length k.split, length-append k.stretch rest)
 
 at_most_key : (keys : Keys) (u : Bool) (room : ℕ) (before : Text) → AtMost (read_key keys u room before)
 at_most_key Names u room before = at_most_means name (λ n. Some (tree.text (encode_utf8_all n))) (shrinks name Name word_name.sound)
@@ -218,7 +225,9 @@ below_shrinks u room = record { at_most = λ seen before s t rest e. at_most_bel
 
 pub entry_shrinks : (keys : Keys) (u : Bool) (room : ℕ) → Shrinks (λ (seen : List Entry). read_entry keys u room)
 entry_shrinks keys u room = record {
-  at_most = λ seen before s p rest e. at_most_chain (read_key keys u room before) (λ key _. in_sequence (mark 58 done) (λ _ gap. value_of u room key gap)) (at_most_key keys u room before)
-      (λ key gap. at_most_chain (mark 58 done) (λ _ gap. value_of u room key gap) (at_most_mark 58 done) (λ _ gap. at_most_means (read_below u room gap) (entry_with key) (at_most_below u room gap)))
+  at_most = λ seen before s p rest e.
+      at_most_chain (read_key keys u room before) (λ key _. in_sequence (mark 58 done) (λ _ gap. value_of u room key gap)) (at_most_key keys u room before)
+      (λ key gap. at_most_chain (mark 58 done) (λ _ gap. value_of u room key gap) (at_most_mark 58 done)
+      (λ _ gap. at_most_means (read_below u room gap) (entry_with key) (at_most_below u room gap)))
       s p rest (sym (entry_is u before s keys room) ∙ e);
 }

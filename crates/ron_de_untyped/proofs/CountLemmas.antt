@@ -1,5 +1,6 @@
 -- What reading without a schema adds to the count of turns, a return at a time.
-use Rattle.std.proofs.Common.{◌≡◌, ℕ, ◌≤◌, ◌+◌, not, is_some, Bool, true, false, codes, ◌++◌, Option, Some, None, MatchOption, Result, Ok, Err, MatchBool, refl, sym, ap, subst, ◌∙◌, arith}
+use Rattle.std.proofs.Common.{◌≡◌, ℕ, ◌≤◌, ◌+◌, not, is_some, Bool, true, false, codes, ◌++◌, Option, Some, None, MatchOption, Result, Ok, Err, MatchBool, refl}
+use Rattle.std.proofs.Common.{sym, ap, subst, ◌∙◌, arith}
 use Rattle.std.proofs.lemmas.Bool.{and_parts}
 use Rattle.ron_spec_words.specs.Characters.{Text}
 use Rattle.ron_spec_words.specs.Gap.{skip}
@@ -17,9 +18,12 @@ use Rattle.ron_lex.specs.Turns.{Stays, GoesOver, Looks, Scans}
 use Rattle.ron_de_steps.specs.Spends.{total_behind, total_before, IsReached, IsOpened, SpendsAny, SpendsUntyped, SettlesUntyped, Nears, Enters}
 use Rattle.ron_de_steps.specs.Steps.{past_comma, past_colon}
 use Rattle.ron_de_steps.proofs.SpendLemmas.{before_none, behind_before, turns_behind, nears_settles, enters_allows, looks_leave, scans_behind}
-use Rattle.ron_de_steps.proofs.NearLemmas.{gap_nears, untyped_name_nears, unit_nears, some_nears, past_comma_enters, past_comma_nears, mark_left_parenthesis, mark_right_parenthesis, mark_left_bracket, mark_right_bracket, mark_left_brace, mark_right_brace, IsMark}
-use Rattle.ron_de_steps.proofs.KeepLemmas.{keeps_ok, keeps_err, keeps_more, settles_spends, spends_more, looks_then, looks_settle, refused_here, scans_refused, stays_then, tried_again, looks_scan, brackets_refused, brackets_open, brackets_settle}
-use Rattle.ron_de_steps.proofs.LeadLemmas.{leads_past_colon, reached_on, reached_stays, reached_comma, reached_colon, opened_reached, stands_reached, follows_comma, follows_colon}
+use Rattle.ron_de_steps.proofs.NearLemmas.{gap_nears, untyped_name_nears, unit_nears, some_nears, past_comma_enters, past_comma_nears, mark_left_parenthesis}
+use Rattle.ron_de_steps.proofs.NearLemmas.{mark_right_parenthesis, mark_left_bracket, mark_right_bracket, mark_left_brace, mark_right_brace, IsMark}
+use Rattle.ron_de_steps.proofs.KeepLemmas.{keeps_ok, keeps_err, keeps_more, settles_spends, spends_more, looks_then, looks_settle, refused_here, scans_refused}
+use Rattle.ron_de_steps.proofs.KeepLemmas.{stays_then, tried_again, looks_scan, brackets_refused, brackets_open, brackets_settle}
+use Rattle.ron_de_steps.proofs.LeadLemmas.{leads_past_colon, reached_on, reached_stays, reached_comma, reached_colon, opened_reached, stands_reached}
+use Rattle.ron_de_steps.proofs.LeadLemmas.{follows_comma, follows_colon}
 use Rattle.ron_de_untyped.specs.Comma.{FollowsBy}
 use Rattle.ron_de_untyped.specs.Count.{PassesWord, PassesUntyped}
 use Rattle.ron_de_untyped.specs.declared.groups.Brackets.{Brackets}
@@ -29,11 +33,13 @@ use Rattle.ron_de_untyped.specs.Group.{open_mark, close_mark}
 -- ---- answers
 
 -- what is made of what was read, or a refusal of it
-pub spent_as : {A B E F : Type 0} (m : ℕ) (old new : Place) (a : A) (r : Result B F) → SpendsUntyped {A = A} {E = E} m old (Ok a) new → SpendsUntyped m old r new
+pub spent_as : {A B E F : Type 0} (m : ℕ) (old new : Place) (a : A) (r : Result B F) → SpendsUntyped {A = A} {E = E} m old (Ok a) new
+    → SpendsUntyped m old r new
 spent_as m old new a (Ok b) h = λ reached c k i. let s = h reached c k i in record { most = s.most; left = s.left }
 spent_as m old new a (Err f) h = λ reached c k i. let s = h reached c k i in record { most = s.most; left = tt }
 
-pub spent_not : {A B E F : Type 0} (bare : Bool) (m : ℕ) (old new : Place) (e : E) (f : F) → SpendsAny {A = A} {E = E} bare m old (Err e) new → SpendsAny {A = B} {E = F} bare m old (Err f) new
+pub spent_not : {A B E F : Type 0} (bare : Bool) (m : ℕ) (old new : Place) (e : E) (f : F) → SpendsAny {A = A} {E = E} bare m old (Err e) new
+    → SpendsAny {A = B} {E = F} bare m old (Err f) new
 spent_not bare m old new e f h = λ stands c k i. let s = h stands c k i in record { most = s.most; left = tt }
 
 -- a refusal at the place itself
@@ -48,23 +54,28 @@ pub settled_spent : {A E : Type 0} (m : ℕ) (old : Place) (r : Result A E) (new
 settled_spent m old r new h = λ reached c k i. settles_spends c k m old r new (h reached c k i)
 
 -- behind an opening bracket whole tokens lead too
-pub opened_spent : {A E : Type 0} (bare : Bool) (m n : ℕ) (old : Place) (r : Result A E) (new : Place) → m ≤ n → SpendsAny bare m old r new → SpendsAny true n old r new
+pub opened_spent : {A E : Type 0} (bare : Bool) (m n : ℕ) (old : Place) (r : Result A E) (new : Place) → m ≤ n → SpendsAny bare m old r new
+    → SpendsAny true n old r new
 opened_spent true m n old r new le h = λ opened c k i. spends_more c k m n old r new le (h opened c k i)
 opened_spent false m n old r new le h = λ opened c k i. spends_more c k m n old r new le (h (opened_reached old opened) c k i)
 
 -- ---- looks
 
 -- looks at the place, and then a value
-pub looked_spent : {A E : Type 0} (bare : Bool) (d m n : ℕ) (old mid : Place) (r : Result A E) (new : Place) → d + m ≤ n → Stays old mid → Looks d old mid → SpendsUntyped m mid r new → SpendsAny bare n old r new
-looked_spent bare d m n old mid r new le s l h = λ stands c k i. looks_then c k d m n old mid r new le s l (h (reached_stays old mid s (stands_reached bare old stands)) c k i)
+pub looked_spent : {A E : Type 0} (bare : Bool) (d m n : ℕ) (old mid : Place) (r : Result A E) (new : Place) → d + m ≤ n → Stays old mid → Looks d old mid
+    → SpendsUntyped m mid r new → SpendsAny bare n old r new
+looked_spent bare d m n old mid r new le s l h =
+    λ stands c k i. looks_then c k d m n old mid r new le s l (h (reached_stays old mid s (stands_reached bare old stands)) c k i)
 
-pub looked_settled : {A E : Type 0} (d n : ℕ) (old mid : Place) (r : Result A E) (new : Place) → d ≤ n → Stays old mid → Looks d old mid → SettlesUntyped mid r new → SpendsUntyped n old r new
+pub looked_settled : {A E : Type 0} (d n : ℕ) (old mid : Place) (r : Result A E) (new : Place) → d ≤ n → Stays old mid → Looks d old mid
+    → SettlesUntyped mid r new → SpendsUntyped n old r new
 looked_settled d n old mid r new le s l h = λ reached c k i. looks_settle c k d n old mid r new le s l (h (reached_stays old mid s reached) c k i)
 
 -- The kind of what stands behind a bracket is known at no cost.
 module _ (old mid : Place) (s : Stays old mid) (l : IsOpened old → mid.turns ≤ old.turns) where
   pub told_spent : {A E : Type 0} (r : Result A E) (new : Place) → SpendsUntyped 2 mid r new → SpendsAny true 2 old r new
-  told_spent r new h = λ opened c k i. stays_then c k 2 2 old mid r new (omega arith) s (l opened) (h (reached_stays old mid s (opened_reached old opened)) c k i)
+  told_spent r new h =
+      λ opened c k i. stays_then c k 2 2 old mid r new (omega arith) s (l opened) (h (reached_stays old mid s (opened_reached old opened)) c k i)
 
   pub told_refused : {A E : Type 0} (e : E) → SpendsAny {A = A} true 2 old (Err e) mid
   told_refused e = λ opened c k i. refused_here c k 2 old mid e (l opened)
@@ -81,21 +92,25 @@ scan_settled d old new e le h = λ reached c k i. keeps_err c k (total_behind c 
 -- a word, and what is made of it
 pub settled_so : {A E : Type 0} (d : ℕ) (old new : Place) (r : Result A E) → d ≤ 2 → GoesOver d old new → Nears old new → SettlesUntyped old r new
 settled_so d old new (Ok a) le h near = word_settled d old new a le h near
-settled_so d old new (Err e) le h near = λ reached c k i. let s = nears_settles c k d old new (omega (arith, le, i)) h near in keeps_err c k (total_behind c k old) e new (omega (arith, s, turns_behind c k new))
+settled_so d old new (Err e) le h near = λ reached c k i. let s = nears_settles c k d old new (omega (arith, le, i)) h near in
+    keeps_err c k (total_behind c k old) e new (omega (arith, s, turns_behind c k new))
 
 -- a name that isn't there, and what is told of it
-pub look_scan_settled : {A E : Type 0} (old mid new : Place) (e : E) → Stays old mid → Looks 1 old mid → Scans 1 mid new → SettlesUntyped {A = A} old (Err e) new
+pub look_scan_settled : {A E : Type 0} (old mid new : Place) (e : E) → Stays old mid → Looks 1 old mid → Scans 1 mid new
+    → SettlesUntyped {A = A} old (Err e) new
 look_scan_settled old mid new e s l h = scan_settled 2 old new e (omega arith) (looks_scan 1 1 old mid new s l h)
 
 -- a place without a look
 pub looks_here : (old new : Place) → new ≡ old → Looks 1 old new
 looks_here old new e = subst (λ (p : Place). Looks 1 p new) e (omega (arith, beyond_no_more new.rest))
 
-pub unit_taken : (b : Bool) (old new : Place) → GoesOver 1 old new → MatchBool b (old.rest ≡ codes "()" ++ new.rest) ((begins_with (codes "()") old.rest ≡ false) × (new ≡ old)) → MatchBool b (PassesWord old new) (new ≡ old)
+pub unit_taken : (b : Bool) (old new : Place) → GoesOver 1 old new
+    → MatchBool b (old.rest ≡ codes "()" ++ new.rest) ((begins_with (codes "()") old.rest ≡ false) × (new ≡ old)) → MatchBool b (PassesWord old new) (new ≡ old)
 unit_taken true old new h e = record { over = h; near = unit_nears old new e }
 unit_taken false old new h e = e.1
 
-pub some_taken : (b : Bool) (old new : Place) → GoesOver 1 old new → MatchBool b (old.rest ≡ codes "Some" ++ new.rest) (new ≡ old) → MatchBool b (PassesWord old new) (new ≡ old)
+pub some_taken : (b : Bool) (old new : Place) → GoesOver 1 old new → MatchBool b (old.rest ≡ codes "Some" ++ new.rest) (new ≡ old)
+    → MatchBool b (PassesWord old new) (new ≡ old)
 some_taken true old new h e = record { over = h; near = some_nears old new e }
 some_taken false old new h e = e
 
@@ -104,7 +119,9 @@ pub name_scans : {N : Type 0} (r : Option N) (old new : Place) → MatchOption r
 name_scans None old new h = omega (arith, h)
 name_scans (Some n) old new h = omega (arith, h)
 
-pub name_word : {N : Type 0} (r : Option N) (old new : Place) (view : N → Text) → is_some r ≡ true → MatchOption r ((untyped_name old.rest ≡ failed bad) × Stays old new) (λ n. untyped_name old.rest ≡ got (view n) new.rest) → MatchOption r (Looks 1 old new) (λ _. GoesOver 1 old new) → PassesWord old new
+pub name_word : {N : Type 0} (r : Option N) (old new : Place) (view : N → Text) → is_some r ≡ true
+    → MatchOption r ((untyped_name old.rest ≡ failed bad) × Stays old new) (λ n. untyped_name old.rest ≡ got (view n) new.rest)
+    → MatchOption r (Looks 1 old new) (λ _. GoesOver 1 old new) → PassesWord old new
 name_word None old new view is v h = absurd (cc)
 name_word (Some n) old new view is v h = record { over = h; near = untyped_name_nears (view n) old new v }
 
@@ -119,10 +136,16 @@ settled_from old mid r new e h = subst (λ (p : Place). SettlesUntyped p r new) 
 -- ---- words before what they hold
 
 pub pass_word : (m n : ℕ) (old mid new : Place) → PassesWord old mid → GoesOver 1 mid new → new.rest ≡ skip mid.rest → PassesUntyped m n old (Ok true) new
-pass_word m n old mid new h over e = λ c k i. omega (arith, nears_settles c k 1 mid new (omega arith) over (gap_nears mid new e), nears_settles c k 1 old mid (omega arith) h.over h.near, behind_before c k m old)
+pass_word m n old mid new h over e = λ c k i. omega (
+  arith,
+  nears_settles c k 1 mid new (omega arith) over (gap_nears mid new e),
+  nears_settles c k 1 old mid (omega arith) h.over h.near,
+  behind_before c k m old,
+)
 
 pub pass_open : (m n : ℕ) (old mid new : Place) (e : Error) → PassesWord old mid → Scans 1 mid new → PassesUntyped m n old (Err e) new
-pass_open m n old mid new e h scans = λ c k i. omega (arith, scans_behind c k 1 mid new (omega arith) scans, nears_settles c k 1 old mid (omega arith) h.over h.near, behind_before c k m old)
+pass_open m n old mid new e h scans =
+    λ c k i. omega (arith, scans_behind c k 1 mid new (omega arith) scans, nears_settles c k 1 old mid (omega arith) h.over h.near, behind_before c k m old)
 
 -- likewise behind a look
 pub look_none : (old mid : Place) → Stays old mid → Looks 1 old mid → PassesUntyped 1 0 old (Ok false) mid
@@ -133,10 +156,16 @@ module _ (old mid : Place) (s : Stays old mid) (l : Looks 1 old mid) where
   looked c k = omega (arith, before_none c k mid, looks_leave c k 1 0 1 old mid (omega arith) s l)
 
   pub look_word : (there new : Place) → PassesWord mid there → GoesOver 1 there new → new.rest ≡ skip there.rest → PassesUntyped 1 0 old (Ok true) new
-  look_word there new h over e = λ c k i. omega (arith, nears_settles c k 1 there new (omega arith) over (gap_nears there new e), nears_settles c k 1 mid there (omega arith) h.over h.near, looked c k)
+  look_word there new h over e = λ c k i. omega (
+    arith,
+    nears_settles c k 1 there new (omega arith) over (gap_nears there new e),
+    nears_settles c k 1 mid there (omega arith) h.over h.near,
+    looked c k,
+  )
 
   pub look_open : (there new : Place) (e : Error) → PassesWord mid there → Scans 1 there new → PassesUntyped 1 0 old (Err e) new
-  look_open there new e h scans = λ c k i. omega (arith, scans_behind c k 1 there new (omega arith) scans, nears_settles c k 1 mid there (omega arith) h.over h.near, looked c k)
+  look_open there new e h scans =
+      λ c k i. omega (arith, scans_behind c k 1 there new (omega arith) scans, nears_settles c k 1 mid there (omega arith) h.over h.near, looked c k)
 
   pub look_refused : (new : Place) (e : Error) → Scans 1 mid new → PassesUntyped 1 0 old (Err e) new
   look_refused new e scans = λ c k i. omega (arith, scans_behind c k 1 mid new (omega arith) scans, looked c k)
@@ -154,15 +183,20 @@ pub leaves_on : (n : ℕ) (old mid new : Place) (b : Bool) → b ≡ false → L
 leaves_on n old mid new true e h p = absurd (cc)
 leaves_on n old mid new false e h p = λ c k i. omega (arith, h c k i, p c k i)
 
-pub word_refused : {A : Type 0} (n : ℕ) (old mid new : Place) (e f : Error) → Leaves 1 old mid → PassesUntyped 1 n mid (Err e) new → SpendsUntyped {A = A} 1 old (Err f) new
+pub word_refused : {A : Type 0} (n : ℕ) (old mid new : Place) (e f : Error) → Leaves 1 old mid → PassesUntyped 1 n mid (Err e) new
+    → SpendsUntyped {A = A} 1 old (Err f) new
 word_refused n old mid new e f h p = λ reached c k i. keeps_err c k (total_before c k 1 old) f new (omega (arith, h c k i, p c k i))
 
-pub word_held : {A E : Type 0} (n : ℕ) (old mid there : Place) (b : Bool) (r : Result A E) (new : Place) → b ≡ true → Leaves 1 old mid → PassesUntyped 1 n mid (Ok b) there → (IsReached old → IsReached there) → SettlesUntyped there r new → SpendsUntyped 1 old r new
-word_held n old mid there true r new e h p on s = λ reached c k i. keeps_more c k (total_behind c k there) (total_before c k 1 old) r new (omega (arith, h c k i, p c k i)) (s (on reached) c k i)
+pub word_held : {A E : Type 0} (n : ℕ) (old mid there : Place) (b : Bool) (r : Result A E) (new : Place) → b ≡ true → Leaves 1 old mid
+    → PassesUntyped 1 n mid (Ok b) there → (IsReached old → IsReached there) → SettlesUntyped there r new → SpendsUntyped 1 old r new
+word_held n old mid there true r new e h p on s =
+    λ reached c k i. keeps_more c k (total_behind c k there) (total_before c k 1 old) r new (omega (arith, h c k i, p c k i)) (s (on reached) c k i)
 word_held n old mid there false r new e h p on s = absurd (cc)
 
-pub word_else : {A E : Type 0} (old mid : Place) (r : Result A E) (new : Place) → Leaves 0 old mid → (IsReached old → IsReached mid) → SettlesUntyped mid r new → SpendsUntyped 1 old r new
-word_else old mid r new h on s = λ reached c k i. keeps_more c k (total_behind c k mid) (total_before c k 1 old) r new (omega (arith, h c k i, before_none c k mid)) (s (on reached) c k i)
+pub word_else : {A E : Type 0} (old mid : Place) (r : Result A E) (new : Place) → Leaves 0 old mid → (IsReached old → IsReached mid) → SettlesUntyped mid r new
+    → SpendsUntyped 1 old r new
+word_else old mid r new h on s =
+    λ reached c k i. keeps_more c k (total_behind c k mid) (total_before c k 1 old) r new (omega (arith, h c k i, before_none c k mid)) (s (on reached) c k i)
 
 -- where whole tokens lead over a word that stands there
 pub word_reached : (old mid there : Place) → mid ≡ old → there.text ≡ mid.text → Leads mid.rest there.rest → IsReached old → IsReached there
@@ -170,22 +204,32 @@ word_reached old mid there e t l r = reached_on mid there t l (subst (λ (p : Pl
 
 -- ---- steps behind a value
 
-pub spent_open : {A B E F : Type 0} (bare : Bool) (m : ℕ) (old mid new : Place) (a : A) (f : F) → SpendsAny {E = E} bare m old (Ok a) mid → Scans 1 mid new → SpendsAny {A = B} bare m old (Err f) new
-spent_open bare m old mid new a f h scans = λ stands c k i. keeps_err c k (total_before c k m old) f new (omega (arith, (h stands c k i).left, scans_behind c k 1 mid new (omega arith) scans))
+pub spent_open : {A B E F : Type 0} (bare : Bool) (m : ℕ) (old mid new : Place) (a : A) (f : F) → SpendsAny {E = E} bare m old (Ok a) mid → Scans 1 mid new
+    → SpendsAny {A = B} bare m old (Err f) new
+spent_open bare m old mid new a f h scans =
+    λ stands c k i. keeps_err c k (total_before c k m old) f new (omega (arith, (h stands c k i).left, scans_behind c k 1 mid new (omega arith) scans))
 
-pub spent_moved : {A B E F : Type 0} (bare : Bool) (m : ℕ) (old mid new : Place) (a : A) (b : B) → SpendsAny {E = E} bare m old (Ok a) mid → GoesOver 1 mid new → Nears mid new → SpendsAny {E = F} bare m old (Ok b) new
-spent_moved bare m old mid new a b h over near = λ stands c k i. keeps_ok c k (total_before c k m old) b new (omega (arith, (h stands c k i).left, nears_settles c k 1 mid new (omega arith) over near))
+pub spent_moved : {A B E F : Type 0} (bare : Bool) (m : ℕ) (old mid new : Place) (a : A) (b : B) → SpendsAny {E = E} bare m old (Ok a) mid → GoesOver 1 mid new
+    → Nears mid new → SpendsAny {E = F} bare m old (Ok b) new
+spent_moved bare m old mid new a b h over near =
+    λ stands c k i. keeps_ok c k (total_before c k m old) b new (omega (arith, (h stands c k i).left, nears_settles c k 1 mid new (omega arith) over near))
 
-pub spent_entered : {A B E F : Type 0} (m : ℕ) (old mid there : Place) (a : A) (r : Result B F) (new : Place) → SpendsUntyped {E = E} m old (Ok a) mid → GoesOver 1 mid there → Enters mid there → (IsReached old → IsReached there) → SpendsUntyped 2 there r new → SpendsUntyped m old r new
-spent_entered m old mid there a r new h over e on s = λ reached c k i. keeps_more c k (total_before c k 2 there) (total_before c k m old) r new (omega (arith, (h reached c k i).left, enters_allows c k 2 mid there (omega arith) over e)) (s (on reached) c k i)
+pub spent_entered : {A B E F : Type 0} (m : ℕ) (old mid there : Place) (a : A) (r : Result B F) (new : Place) → SpendsUntyped {E = E} m old (Ok a) mid
+    → GoesOver 1 mid there → Enters mid there → (IsReached old → IsReached there) → SpendsUntyped 2 there r new → SpendsUntyped m old r new
+spent_entered m old mid there a r new h over e on s = λ reached c k i. keeps_more c k (total_before c k 2 there) (total_before c k m old) r new
+    (omega (arith, (h reached c k i).left, enters_allows c k 2 mid there (omega arith) over e)) (s (on reached) c k i)
 
 -- behind a key, the colon and its gap
-pub colon_reached : (old mid there : Place) → mid.text ≡ old.text → there.text ≡ mid.text → (FollowsValue mid.rest → Leads old.rest mid.rest) → past_colon mid.rest ≡ Some (there.gap, there.rest) → IsReached old → IsReached there
-colon_reached old mid there same on leads e r = reached_colon mid there on e (reached_on old mid same (leads (follows_colon mid.rest (there.gap, there.rest) e)) r)
+pub colon_reached : (old mid there : Place) → mid.text ≡ old.text → there.text ≡ mid.text → (FollowsValue mid.rest → Leads old.rest mid.rest)
+    → past_colon mid.rest ≡ Some (there.gap, there.rest) → IsReached old → IsReached there
+colon_reached old mid there same on leads e r =
+    reached_colon mid there on e (reached_on old mid same (leads (follows_colon mid.rest (there.gap, there.rest) e)) r)
 
 -- an entry: a key, a colon, and a value
-pub entry_leads : (old mid there new : Place) → (FollowsValue mid.rest → Leads old.rest mid.rest) → past_colon mid.rest ≡ Some (there.gap, there.rest) → (FollowsValue new.rest → Leads there.rest new.rest) → FollowsValue new.rest → Leads old.rest new.rest
-entry_leads old mid there new key e value f = leads_on (key (follows_colon mid.rest (there.gap, there.rest) e)) (leads_on (leads_past_colon mid there e) (value f))
+pub entry_leads : (old mid there new : Place) → (FollowsValue mid.rest → Leads old.rest mid.rest) → past_colon mid.rest ≡ Some (there.gap, there.rest)
+    → (FollowsValue new.rest → Leads there.rest new.rest) → FollowsValue new.rest → Leads old.rest new.rest
+entry_leads old mid there new key e value f =
+    leads_on (key (follows_colon mid.rest (there.gap, there.rest) e)) (leads_on (leads_past_colon mid there e) (value f))
 
 -- ---- brackets
 
@@ -209,10 +253,12 @@ module _ (old inner : Place) (over : GoesOver 1 old inner) (enters : Enters old 
   pub group_refused : {A B E F : Type 0} (new : Place) (e : E) (f : F) → SpendsAny {A = A} true 3 inner (Err e) new → SettlesUntyped {A = B} old (Err f) new
   group_refused new e f h = λ reached c k i. brackets_refused c k 3 old inner new e f (omega arith) over enters (h (opens reached) c k i)
 
-  pub group_open : {A B E F : Type 0} (mid new : Place) (a : A) (f : F) → SpendsAny {E = E} true 3 inner (Ok a) mid → Scans 1 mid new → SettlesUntyped {A = B} old (Err f) new
+  pub group_open : {A B E F : Type 0} (mid new : Place) (a : A) (f : F) → SpendsAny {E = E} true 3 inner (Ok a) mid → Scans 1 mid new
+      → SettlesUntyped {A = B} old (Err f) new
   group_open mid new a f h scans = λ reached c k i. brackets_open c k 3 old inner mid new a f (omega arith) over enters (h (opens reached) c k i) scans
 
-  pub group_settled : {A B E F : Type 0} (mid new : Place) (a : A) (b : B) → SpendsAny {E = E} true 3 inner (Ok a) mid → GoesOver 1 mid new → Nears mid new → SettlesUntyped {E = F} old (Ok b) new
+  pub group_settled : {A B E F : Type 0} (mid new : Place) (a : A) (b : B) → SpendsAny {E = E} true 3 inner (Ok a) mid → GoesOver 1 mid new → Nears mid new
+      → SettlesUntyped {E = F} old (Ok b) new
   group_settled mid new a b h on near = λ reached c k i. brackets_settle c k 3 old inner mid new a b (omega arith) over enters (h (opens reached) c k i) on near
 
 -- ---- items in turn
@@ -232,13 +278,25 @@ module _ {more : Bool} {old now : Place} (h : CountsTo more old now) where
 
   module _ (is : more ≡ true) where
     pub counts_item : {A E : Type 0} (r : Result A E) (new : Place) → SpendsUntyped 2 now r new → SpendsUntyped 2 old r new
-    counts_item r new s = λ reached c k i. keeps_more c k (total_before c k 2 now) (total_before c k 2 old) r new (h.next c k i is reached) (s (h.reached is reached) c k i)
+    counts_item r new s =
+        λ reached c k i. keeps_more c k (total_before c k 2 now) (total_before c k 2 old) r new (h.next c k i is reached) (s (h.reached is reached) c k i)
 
-    pub counts_on : {A E : Type 0} (close : ℕ) (a : A) (mid next : Place) (again : Bool) → SpendsUntyped {E = E} 2 now (Ok a) mid → mid.text ≡ now.text → (FollowsValue mid.rest → Leads now.rest mid.rest) → GoesOver 1 mid next → next.text ≡ mid.text → FollowsBy close (past_comma mid.rest) again next → CountsTo again old next
+    pub counts_on : {A E : Type 0} (close : ℕ) (a : A) (mid next : Place) (again : Bool) → SpendsUntyped {E = E} 2 now (Ok a) mid → mid.text ≡ now.text
+        → (FollowsValue mid.rest → Leads now.rest mid.rest) → GoesOver 1 mid next → next.text ≡ mid.text → FollowsBy close (past_comma mid.rest) again next
+        → CountsTo again old next
     counts_on {A = A} {E = E} close a mid next again s same leads over on f = record {
-      next = λ c k i e r. omega (arith, (counts_item {A = A} {E = E} (Ok a) mid s r c k i).left, enters_allows c k 2 mid next (omega arith) over (past_comma_enters mid next (comma e)));
-      done = λ c k i r. omega (arith, (counts_item {A = A} {E = E} (Ok a) mid s r c k i).left, nears_settles c k 1 mid next (omega arith) over (past_comma_nears f.passed mid next f.is));
-      reached = λ e r. reached_comma mid next on true (comma e) (reached_on now mid same (leads (follows_comma mid.rest (next.gap, next.rest) (comma e))) (h.reached is r));
+      next = λ c k i e r. omega (
+        arith,
+        (counts_item {A = A} {E = E} (Ok a) mid s r c k i).left,
+        enters_allows c k 2 mid next (omega arith) over (past_comma_enters mid next (comma e)),
+      );
+      done = λ c k i r. omega (
+        arith,
+        (counts_item {A = A} {E = E} (Ok a) mid s r c k i).left,
+        nears_settles c k 1 mid next (omega arith) over (past_comma_nears f.passed mid next f.is),
+      );
+      reached = λ e r.
+          reached_comma mid next on true (comma e) (reached_on now mid same (leads (follows_comma mid.rest (next.gap, next.rest) (comma e))) (h.reached is r));
     }
       where
         comma : again ≡ true → past_comma mid.rest ≡ Some (true, (next.gap, next.rest))
@@ -247,5 +305,7 @@ module _ {more : Bool} {old now : Place} (h : CountsTo more old now) where
 -- ---- ranges
 
 -- a start that doesn't fit: the place is gone back to, and the start read once more
-pub unfit_spent : {A : Type 0} (old there back new : Place) (e : Error) → Scans 2 old there → Stays old back → back.turns ≡ there.turns → Scans 2 back new → SpendsUntyped {A = A} 2 old (Err e) new
-unfit_spent old there back new e h s m n = λ reached c k i. scans_refused c k 4 2 old new e (omega arith) (omega (arith, i)) (tried_again 2 2 old there back new h s m n)
+pub unfit_spent : {A : Type 0} (old there back new : Place) (e : Error) → Scans 2 old there → Stays old back → back.turns ≡ there.turns → Scans 2 back new
+    → SpendsUntyped {A = A} 2 old (Err e) new
+unfit_spent old there back new e h s m n =
+    λ reached c k i. scans_refused c k 4 2 old new e (omega arith) (omega (arith, i)) (tried_again 2 2 old there back new h s m n)

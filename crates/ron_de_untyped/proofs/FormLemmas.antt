@@ -37,7 +37,8 @@ use Rattle.ron_de_untyped.proofs.ReadLemmas.{reads_same, last_fails, no_last, la
 
 -- ---- keys that are values
 
-pub key_is_value : (keys : Keys) (x : Conditions) (place : Place) (result : Result Value Error) (rest : Text) → keys ≡ Values → ReadsBelow x place result rest → ReadsKey keys x place result rest
+pub key_is_value : (keys : Keys) (x : Conditions) (place : Place) (result : Result Value Error) (rest : Text) → keys ≡ Values → ReadsBelow x place result rest
+    → ReadsKey keys x place result rest
 key_is_value Names x place result rest e h = absurd (cc)
 key_is_value Values x place result rest e h = λ room r. h room (room_less x.limit _ _ room r (omega arith))
 
@@ -48,16 +49,22 @@ module _ (x : Conditions) (place : Place) (result : Result Value Error) (rest : 
   list_room room r = room_less x.limit _ _ room r (omega arith)
 
   pub inside_as_list : (b : Brackets) → b ≡ brackets.List → ReadsSequence false x 93 place result rest → ReadsInside b x place result rest
-  inside_as_list b e h = subst (λ (c : Brackets). ReadsInside c x place result rest) (sym e) (λ room r. reads_same tree_of result _ _ rest (inside_list (unwraps x) room place.gap place.rest) (h room (list_room room r)))
+  inside_as_list b e h = subst (λ (c : Brackets). ReadsInside c x place result rest) (sym e)
+      (λ room r. reads_same tree_of result _ _ rest (inside_list (unwraps x) room place.gap place.rest) (h room (list_room room r)))
 
   pub inside_as_map : (b : Brackets) → b ≡ brackets.Map → ReadsMapping Values x place result rest → ReadsInside b x place result rest
-  inside_as_map b e h = subst (λ (c : Brackets). ReadsInside c x place result rest) (sym e) (λ room r. reads_same tree_of result _ _ rest (inside_map (unwraps x) room place.gap place.rest) (h room (list_room room r)))
+  inside_as_map b e h = subst (λ (c : Brackets). ReadsInside c x place result rest) (sym e)
+      (λ room r. reads_same tree_of result _ _ rest (inside_map (unwraps x) room place.gap place.rest) (h room (list_room room r)))
 
-  pub inside_as_fields : (b : Brackets) → b ≡ brackets.Group → opens_field place.rest ≡ true → ReadsMapping Names x place result rest → ReadsInside b x place result rest
-  inside_as_fields b e f h = subst (λ (c : Brackets). ReadsInside c x place result rest) (sym e) (λ room r. reads_same tree_of result _ _ rest (inside_fields (unwraps x) room place.gap place.rest f) (h room (list_room room r)))
+  pub inside_as_fields : (b : Brackets) → b ≡ brackets.Group → opens_field place.rest ≡ true → ReadsMapping Names x place result rest
+      → ReadsInside b x place result rest
+  inside_as_fields b e f h = subst (λ (c : Brackets). ReadsInside c x place result rest) (sym e)
+      (λ room r. reads_same tree_of result _ _ rest (inside_fields (unwraps x) room place.gap place.rest f) (h room (list_room room r)))
 
-  pub inside_as_items : (b : Brackets) → b ≡ brackets.Group → opens_field place.rest ≡ false → ReadsSequence false x 41 place result rest → ReadsInside b x place result rest
-  inside_as_items b e f h = subst (λ (c : Brackets). ReadsInside c x place result rest) (sym e) (λ room r. reads_same tree_of result _ _ rest (inside_items (unwraps x) room place.gap place.rest f) (h room (list_room room r)))
+  pub inside_as_items : (b : Brackets) → b ≡ brackets.Group → opens_field place.rest ≡ false → ReadsSequence false x 41 place result rest
+      → ReadsInside b x place result rest
+  inside_as_items b e f h = subst (λ (c : Brackets). ReadsInside c x place result rest) (sym e)
+      (λ room r. reads_same tree_of result _ _ rest (inside_items (unwraps x) room place.gap place.rest f) (h room (list_room room r)))
 
 -- ---- bare values
 
@@ -88,15 +95,19 @@ module _ (x : Conditions) (place : Place) (e : is_at 41 place.rest ≡ false) (f
 -- ---- words
 
 -- brackets at the same place
-pub group_there : (b : Brackets) (x : Conditions) (place next : Place) (result : Result Value Error) (rest : Text) → next.rest ≡ place.rest → ReadsGroup b x next result rest → ReadsGroup b x place result rest
-group_there b x place next result rest e h = subst (λ (s : Text). (room : ℕ) → IsRoom x.limit (enough_for_value false (length s)) room → Reads tree_of result (read_group b (unwraps x) room s) rest) e h
+pub group_there : (b : Brackets) (x : Conditions) (place next : Place) (result : Result Value Error) (rest : Text) → next.rest ≡ place.rest
+    → ReadsGroup b x next result rest → ReadsGroup b x place result rest
+group_there b x place next result rest e h =
+    subst (λ (s : Text). (room : ℕ) → IsRoom x.limit (enough_for_value false (length s)) room → Reads tree_of result (read_group b (unwraps x) room s) rest) e h
 
 -- a word was passed, or it doesn't stand there
-pub entered : (join : Reader Tree → Reader Tree → Reader Tree) (old new : Place) (b : Bool) → b ≡ true → Enters join old (Ok b) new → (held other : Reader Tree) → join held other old.rest ≡ held new.rest
+pub entered : (join : Reader Tree → Reader Tree → Reader Tree) (old new : Place) (b : Bool) → b ≡ true → Enters join old (Ok b) new → (held other : Reader Tree)
+    → join held other old.rest ≡ held new.rest
 entered join old new true e h held other = h held other
 entered join old new false e h held other = absurd (cc)
 
-pub not_entered : (join : Reader Tree → Reader Tree → Reader Tree) (old new : Place) (b : Bool) → b ≡ false → Enters join old (Ok b) new → (held other : Reader Tree) → (join held other old.rest ≡ other old.rest) × (new.rest ≡ old.rest)
+pub not_entered : (join : Reader Tree → Reader Tree → Reader Tree) (old new : Place) (b : Bool) → b ≡ false → Enters join old (Ok b) new
+    → (held other : Reader Tree) → (join held other old.rest ≡ other old.rest) × (new.rest ≡ old.rest)
 not_entered join old new true e h held other = absurd (cc)
 not_entered join old new false e h held other = h held other
 

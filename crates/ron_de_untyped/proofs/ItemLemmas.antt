@@ -1,5 +1,6 @@
 -- Items, a turn of the loop in `read` at a time.
-use Rattle.std.proofs.Common.{◌≡◌, ℕ, ◌≤◌, ◌==◌, Bool, true, false, not, ◌&&◌, cond, List, [], ◌∷◌, ◌++◌, length, map, Option, Some, None, refl, sym, ap, subst, ◌∙◌, arith}
+use Rattle.std.proofs.Common.{◌≡◌, ℕ, ◌≤◌, ◌==◌, Bool, true, false, not, ◌&&◌, cond, List, [], ◌∷◌, ◌++◌, length, map, Option, Some, None, refl, sym, ap, subst}
+use Rattle.std.proofs.Common.{◌∙◌, arith}
 use Rattle.std.proofs.lemmas.Bool.{eqb-true, not-false, not-true}
 use Rattle.std.proofs.lemmas.List.{map-append}
 use Rattle.std.proofs.lemmas.Option.{same_Some}
@@ -35,14 +36,16 @@ Led gap s true there = IsComma s there
 Led gap s false there = (is_at 44 s ≡ false) × (there ≡ (gap, s))
 
 told : (one other : Bool × (Text × Text)) → Some one ≡ Some other → (other.0 ≡ one.0) × (other.1 ≡ one.1)
-told one other e = let same : other ≡ one = same_Some other one (sym e) in (ap (λ (z : Bool × (Text × Text)). z.0) same, ap (λ (z : Bool × (Text × Text)). z.1) same)
+told one other e = let same : other ≡ one = same_Some other one (sym e) in
+    (ap (λ (z : Bool × (Text × Text)). z.0) same, ap (λ (z : Bool × (Text × Text)). z.1) same)
 
 module _ (gap : Text) where
   comma_led : (s : Text) (passed : Bool) (there : Text × Text) → at_comma gap s ≡ Some (passed, there) → Led gap s passed there
   comma_led [] passed there e = let n = told (false, (gap, [])) (passed, there) e in subst (λ (b : Bool). Led gap [] b there) (sym n.0) (refl, n.1)
   comma_led (c ∷ s) passed there e = go (c == 44) refl e
     where
-      go : (a : Bool) → (c == 44) ≡ a → cond {A = Option (Bool × (Text × Text))} a (unless_slash s (Some (true, (gap_of s, skip s)))) (Some (false, (gap, c ∷ s))) ≡ Some (passed, there) → Led gap (c ∷ s) passed there
+      go : (a : Bool) → (c == 44) ≡ a → cond {A = Option (Bool × (Text × Text))} a (unless_slash s (Some (true, (gap_of s, skip s))))
+          (Some (false, (gap, c ∷ s))) ≡ Some (passed, there) → Led gap (c ∷ s) passed there
       go true p r =
           let n = unless_some s (Some (true, (gap_of s, skip s))) (passed, there) r in
           let m = told (true, (gap_of s, skip s)) (passed, there) n.1 in
@@ -53,13 +56,15 @@ module _ (gap : Text) where
   comma_none [] e = absurd (cc)
   comma_none (c ∷ s) e = go (c == 44) refl e
     where
-      go : (a : Bool) → (c == 44) ≡ a → cond {A = Option (Bool × (Text × Text))} a (unless_slash s (Some (true, (gap_of s, skip s)))) (Some (false, (gap, c ∷ s))) ≡ None → (u : Text) × (c ∷ s ≡ 44 ∷ u) × (is_at 47 (skip u) ≡ true)
+      go : (a : Bool) → (c == 44) ≡ a → cond {A = Option (Bool × (Text × Text))} a (unless_slash s (Some (true, (gap_of s, skip s))))
+          (Some (false, (gap, c ∷ s))) ≡ None → (u : Text) × (c ∷ s ≡ 44 ∷ u) × (is_at 47 (skip u) ≡ true)
       go true p r = (s, ap (λ k. k ∷ s) (eqb-true c 44 p), unless_none s (true, (gap_of s, skip s)) r)
       go false p r = absurd (cc)
 
 -- ---- the loop
 
-module _ {A V : Type 0} (item : ℕ → Text → Reader A) (view : V → A) (close : ℕ) (shrink : (room : ℕ) → Shrinks (λ (seen : List A). item room)) (limit : Option ℕ) where
+module _ {A V : Type 0} (item : ℕ → Text → Reader A) (view : V → A) (close : ℕ) (shrink : (room : ℕ) → Shrinks (λ (seen : List A). item room))
+    (limit : Option ℕ) where
   -- all items from a place on, with those before it
   abbrev pub from : ℕ → List A → Text → Text → Got (List A)
   from room = all_from (λ _. item room) close
@@ -84,7 +89,8 @@ module _ {A V : Type 0} (item : ℕ → Text → Reader A) (view : V → A) (clo
   is_whole : (room : ℕ) (place : Place) → whole room place ≡ from room [] place.gap place.rest
   is_whole room place = sym (meant_same (whole room place))
 
-  pub all_read : (more : Bool) (vs : List V) (old now : Place) → more ≡ false → ItemsRead more vs old now → (room : ℕ) → IsRoom limit (enough_for_items (length old.rest)) room → whole room old ≡ got (map view vs) now.rest
+  pub all_read : (more : Bool) (vs : List V) (old now : Place) → more ≡ false → ItemsRead more vs old now → (room : ℕ)
+      → IsRoom limit (enough_for_items (length old.rest)) room → whole room old ≡ got (map view vs) now.rest
   all_read true vs old now e h room r = absurd (cc)
   all_read false vs old now e h room r = is_whole room old ∙ h.stands room r ∙ ap (λ xs. got xs now.rest) h.seen_in_order
 
@@ -102,35 +108,44 @@ module _ {A V : Type 0} (item : ℕ → Text → Reader A) (view : V → A) (clo
     from_here : (room : ℕ) → IsRoom limit (enough_for_items (length old.rest)) room → whole room old ≡ from room h.seen now.gap now.rest
     from_here room r = is_whole room old ∙ h.stands room r
 
-    pub item_fails : (k : ErrorClass) → ReadsNext (IsFaultOf k) → (room : ℕ) → IsRoom limit (enough_for_items (length old.rest)) room → IsFaultOf k (whole room old)
-    item_fails k next room r = fault_of k _ _ (λ x f. from_here room r ∙ all_failed (λ _. item room) close (shrink room) h.seen now.gap now.rest (h.still refl) x f) (next room (room_now room r))
+    pub item_fails : (k : ErrorClass) → ReadsNext (IsFaultOf k) → (room : ℕ) → IsRoom limit (enough_for_items (length old.rest)) room
+        → IsFaultOf k (whole room old)
+    item_fails k next room r = fault_of k _ _
+        (λ x f. from_here room r ∙ all_failed (λ _. item room) close (shrink room) h.seen now.gap now.rest (h.still refl) x f) (next room (room_now room r))
 
     module _ (v : V) (rest : Text) (next : ReadsNext (λ o. o ≡ got (view v) rest)) where
-      pub comma_fails : (code : Error) → IsMemoryOr (past_comma rest ≡ None) code → (room : ℕ) → IsRoom limit (enough_for_items (length old.rest)) room → IsFaultOf (class_of code) (whole room old)
+      pub comma_fails : (code : Error) → IsMemoryOr (past_comma rest ≡ None) code → (room : ℕ) → IsRoom limit (enough_for_items (length old.rest)) room
+          → IsFaultOf (class_of code) (whole room old)
       comma_fails code t room r = is_fault (class_of code) _ (memory_or_more code (λ n. from_here room r ∙ at_gap (is_at 47 (skip rest)) refl n) t)
         where
-          at_gap : (b : Bool) → is_at 47 (skip rest) ≡ b → cond b None (at_comma (gap_of rest) (skip rest)) ≡ None → from room h.seen now.gap now.rest ≡ failed bad
+          at_gap : (b : Bool) → is_at 47 (skip rest) ≡ b → cond b None (at_comma (gap_of rest) (skip rest)) ≡ None
+              → from room h.seen now.gap now.rest ≡ failed bad
           at_gap true k q = all_slash (λ _. item room) close (shrink room) h.seen now.gap now.rest (h.still refl) (view v) rest (next room (room_now room r)) k
           at_gap false k q =
               let n = comma_none (gap_of rest) (skip rest) q in
-              all_more (λ _. item room) close (shrink room) h.seen now.gap now.rest (h.still refl) (view v) rest (next room (room_now room r)) n.0 n.1 ∙ after_slash (from room (view v ∷ h.seen)) n.0 n.2
+              all_more (λ _. item room) close (shrink room) h.seen now.gap now.rest (h.still refl) (view v) rest (next room (room_now room r)) n.0 n.1
+              ∙ after_slash (from room (view v ∷ h.seen)) n.0 n.2
 
       -- where the step past a comma led
-      led : (passed : Bool) (place : Place) → past_comma rest ≡ Some (passed, (place.gap, place.rest)) → (is_at 47 (skip rest) ≡ false) × Led (gap_of rest) (skip rest) passed (place.gap, place.rest)
+      led : (passed : Bool) (place : Place) → past_comma rest ≡ Some (passed, (place.gap, place.rest))
+          → (is_at 47 (skip rest) ≡ false) × Led (gap_of rest) (skip rest) passed (place.gap, place.rest)
       led passed place e =
           let n = unless_some rest (at_comma (gap_of rest) (skip rest)) (passed, (place.gap, place.rest)) e in
           (n.0, comma_led (gap_of rest) (skip rest) passed (place.gap, place.rest) n.1)
 
       -- behind a comma all goes on
-      past : (place : Place) → IsComma (skip rest) (place.gap, place.rest) → (room : ℕ) → IsRoom limit (enough_for_items (length old.rest)) room → from room h.seen now.gap now.rest ≡ from room (view v ∷ h.seen) place.gap place.rest
+      past : (place : Place) → IsComma (skip rest) (place.gap, place.rest) → (room : ℕ) → IsRoom limit (enough_for_items (length old.rest)) room
+          → from room h.seen now.gap now.rest ≡ from room (view v ∷ h.seen) place.gap place.rest
       past place c room r =
           all_more (λ _. item room) close (shrink room) h.seen now.gap now.rest (h.still refl) (view v) rest (next room (room_now room r)) c.0 c.1
           ∙ after_other (from room (view v ∷ h.seen)) c.0 c.2
           ∙ ap (λ (z : Text × Text). from room (view v ∷ h.seen) z.0 z.1) (sym c.3)
 
-      turn : (passed more : Bool) (place : Place) → past_comma rest ≡ Some (passed, (place.gap, place.rest)) → more ≡ (passed && not (is_at close place.rest)) → (room : ℕ) → IsRoom limit (enough_for_items (length old.rest)) room → from room h.seen now.gap now.rest ≡ Goes more room (view v ∷ h.seen) place
+      turn : (passed more : Bool) (place : Place) → past_comma rest ≡ Some (passed, (place.gap, place.rest)) → more ≡ (passed && not (is_at close place.rest))
+          → (room : ℕ) → IsRoom limit (enough_for_items (length old.rest)) room → from room h.seen now.gap now.rest ≡ Goes more room (view v ∷ h.seen) place
       turn true true place e m room r = past place (led true place e).1 room r
-      turn true false place e m room r = past place (led true place e).1 room r ∙ all_over (λ _. item room) close (shrink room) (view v ∷ h.seen) place.gap place.rest (not-false (is_at close place.rest) (sym m))
+      turn true false place e m room r = past place (led true place e).1 room r
+          ∙ all_over (λ _. item room) close (shrink room) (view v ∷ h.seen) place.gap place.rest (not-false (is_at close place.rest) (sym m))
       turn false true place e m room r = absurd (cc)
       turn false false place e m room r =
           let c = led false place e in
@@ -141,7 +156,8 @@ module _ {A V : Type 0} (item : ℕ → Text → Reader A) (view : V → A) (clo
       still_there true more s m t = not-true (is_at close s) (sym m ∙ t)
       still_there false more s m t = absurd (let k : true ≡ false = sym t ∙ m in cc)
 
-      pub one_more : (more : Bool) (place : Place) (ws : List V) → ws ≡ vs ++ v ∷ [] → FollowsBy close (past_comma rest) more place → length place.rest ≤ length now.rest → ItemsRead more ws old place
+      pub one_more : (more : Bool) (place : Place) (ws : List V) → ws ≡ vs ++ v ∷ [] → FollowsBy close (past_comma rest) more place
+          → length place.rest ≤ length now.rest → ItemsRead more ws old place
       one_more more place ws m follows shorter = record {
         seen = view v ∷ h.seen;
         seen_in_order = in_order h.seen [] (view v ∷ []) ∙ ap (λ xs. xs ++ view v ∷ []) h.seen_in_order ∙ sym (ap (map view) m ∙ map-append view vs (v ∷ []));

@@ -12,7 +12,8 @@ abbrev pub all_from : {A : Type 0} → (List A → Text → Reader A) → ℕ �
 all_from r close seen before s = meant (items_from r close seen before s) (λ xs. Some (all_items seen xs))
 
 module _ {A : Type 0} (r : List A → Text → Reader A) (close : ℕ) (h : Shrinks r) where
-  meant_twice : (o : Got (List A)) (a : A) (seen : List A) → meant (meant o (λ xs. Some (a ∷ xs))) (λ xs. Some (all_items seen xs)) ≡ meant o (λ xs. Some (all_items (a ∷ seen) xs))
+  meant_twice : (o : Got (List A)) (a : A) (seen : List A)
+      → meant (meant o (λ xs. Some (a ∷ xs))) (λ xs. Some (all_items seen xs)) ≡ meant o (λ xs. Some (all_items (a ∷ seen) xs))
   meant_twice (got xs rest) a seen = refl
   meant_twice (failed x) a seen = refl
 
@@ -35,10 +36,12 @@ module _ {A : Type 0} (r : List A → Text → Reader A) (close : ℕ) (h : Shri
         pub all_more : (u : Text) → skip rest ≡ 44 ∷ u → all_from r close seen before s ≡ after_gap (all_from r close (a ∷ seen)) u
         all_more u o = more ∙ behind (is_at 47 (skip u)) refl
           where
-            more : all_from r close seen before s ≡ meant (meant (after_gap (items_from r close (a ∷ seen)) u) (λ xs. Some (a ∷ xs))) (λ xs. Some (all_items seen xs))
+            more : all_from r close seen before s
+                ≡ meant (meant (after_gap (items_from r close (a ∷ seen)) u) (λ xs. Some (a ∷ xs))) (λ xs. Some (all_items seen xs))
             more = rw (e, k, o, tail_comma r close h (a ∷ seen) u) refl
 
-            behind : (b : Bool) → is_at 47 (skip u) ≡ b → meant (meant (after_gap (items_from r close (a ∷ seen)) u) (λ xs. Some (a ∷ xs))) (λ xs. Some (all_items seen xs)) ≡ after_gap (all_from r close (a ∷ seen)) u
+            behind : (b : Bool) → is_at 47 (skip u) ≡ b → meant (meant (after_gap (items_from r close (a ∷ seen)) u) (λ xs. Some (a ∷ xs)))
+                (λ xs. Some (all_items seen xs)) ≡ after_gap (all_from r close (a ∷ seen)) u
             behind true m = rw m refl
             behind false m = rw m (meant_twice (items_from r close (a ∷ seen) (gap_of u) (skip u)) a seen)
 

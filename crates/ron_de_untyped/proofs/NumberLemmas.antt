@@ -74,9 +74,11 @@ refuses_interval (got i rest) h = rw (no_interval i h) refl
 refuses_interval (failed f) h = ap failed h
 
 -- what is read where a value is made, and where none is
-pub interval_fault : (answer : Got Interval) (i : Interval) (rest : Text) → answer ≡ got i rest → interval_value i ≡ None → meant answer interval_value ≡ failed bad
+pub interval_fault : (answer : Got Interval) (i : Interval) (rest : Text) → answer ≡ got i rest → interval_value i ≡ None
+    → meant answer interval_value ≡ failed bad
 interval_fault answer i rest e v = ap (λ o. meant o interval_value) e ∙ rw v refl
 
-pub interval_reads : (result : Result Value Error) (answer : Got Interval) (i : Interval) (rest : Text) → answer ≡ got i rest → MatchResult result (λ v. interval_value i ≡ Some (tree_of v)) (IsMemoryOr (interval_value i ≡ None)) → Reads tree_of result (meant answer interval_value) rest
+pub interval_reads : (result : Result Value Error) (answer : Got Interval) (i : Interval) (rest : Text) → answer ≡ got i rest → MatchResult result
+    (λ v. interval_value i ≡ Some (tree_of v)) (IsMemoryOr (interval_value i ≡ None)) → Reads tree_of result (meant answer interval_value) rest
 interval_reads (Ok v) answer i rest e h = ap (λ o. meant o interval_value) e ∙ rw h refl
 interval_reads (Err error) answer i rest e h = is_fault (class_of error) _ (memory_or_more error (interval_fault answer i rest e) h)

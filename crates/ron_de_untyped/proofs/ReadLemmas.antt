@@ -1,5 +1,6 @@
 -- What code's parts answer, as the reader function of the whole: each lemma takes what the parts promise.
-use Rattle.std.proofs.Common.{◌≡◌, ℕ, suc, ◌<◌, ◌≤◌, ◌&&◌, Bool, true, false, nat_lt, List, [], ◌∷◌, length, map, Some, None, Result, Ok, Err, Vec, Global, refl, sym, ap, subst, ◌∙◌, arith}
+use Rattle.std.proofs.Common.{◌≡◌, ℕ, suc, ◌<◌, ◌≤◌, ◌&&◌, Bool, true, false, nat_lt, List, [], ◌∷◌, length, map, Some, None, Result, Ok, Err, Vec, Global}
+use Rattle.std.proofs.Common.{refl, sym, ap, subst, ◌∙◌, arith}
 use Rattle.std.proofs.lemmas.Bool.{ltb-true}
 use Rattle.ron_spec_words.specs.Characters.{Text}
 use Rattle.ron_spec_words.specs.Lang.{done}
@@ -31,14 +32,17 @@ use Rattle.ron_de_untyped.specs.declared.entries.Keys.TheVariants.{Names, Values
 use Rattle.ron_de_untyped.specs.declared.groups.Brackets.{Brackets}
 use Rattle.ron_de_untyped.specs.Group.{open_mark, close_mark}
 use Rattle.ron_de_untyped.specs.Keys.{are_names}
-use Rattle.ron_de_untyped.specs.Reading.{read_below, read_items, items_value, read_sequence, read_entry, value_of, read_entries, read_mapping, read_inside, read_group}
+use Rattle.ron_de_untyped.specs.Reading.{read_below, read_items, items_value, read_sequence, read_entry, value_of, read_entries, read_mapping, read_inside}
+use Rattle.ron_de_untyped.specs.Reading.{read_group}
 use Rattle.ron_de_untyped.specs.Room.{enough_for_items, enough_for_list, enough_inside}
 use Rattle.ron_de_untyped.specs.Values.{unwraps, ReadsAny, ReadsBelow, ReadsInside, ReadsItems, ReadsKey, ReadsEntries}
-use Rattle.ron_de_untyped.proofs.AnyTurns.{below_here, below_deep, sequence_deep, sequence_here, mapping_deep, mapping_here, entry_is, group_nowhere, group_within, entries_value}
+use Rattle.ron_de_untyped.proofs.AnyTurns.{below_here, below_deep, sequence_deep, sequence_here, mapping_deep, mapping_here, entry_is, group_nowhere}
+use Rattle.ron_de_untyped.proofs.AnyTurns.{group_within, entries_value}
 use Rattle.ron_de_untyped.proofs.ValueLemmas.{mapped_is}
 
 -- what is read of one answer is read of the same one
-pub reads_same : {A B : Type 0} (view : A → B) (result : Result A Error) (one other : Got B) (rest : Text) → one ≡ other → Reads view result other rest → Reads view result one rest
+pub reads_same : {A B : Type 0} (view : A → B) (result : Result A Error) (one other : Got B) (rest : Text) → one ≡ other → Reads view result other rest
+    → Reads view result one rest
 reads_same view result one other rest e h = subst (λ o. Reads view result o rest) (sym e) h
 
 -- ---- one level deeper
@@ -48,13 +52,16 @@ pub deeper_same : (x inner : Conditions) → IsDeeper x inner → unwraps x ≡ 
 deeper_same x inner d = ap (λ s. s.unwrap_variant_newtypes) (sym d.0)
 
 module _ (x : Conditions) (place : Place) where
-  pub below_ended : one_deeper x.limit ≡ None → (room : ℕ) → IsRoom x.limit (suc (enough_for_value false (length place.rest))) room → read_below (unwraps x) room place.gap place.rest ≡ failed deep
+  pub below_ended : one_deeper x.limit ≡ None → (room : ℕ) → IsRoom x.limit (suc (enough_for_value false (length place.rest))) room
+      → read_below (unwraps x) room place.gap place.rest ≡ failed deep
   below_ended e room r = ap (λ k. read_below (unwraps x) k place.gap place.rest) (room_ended x.limit _ room e r) ∙ below_deep (unwraps x) place.gap place.rest
 
-  pub reads_below : (inner : Conditions) → IsDeeper x inner → (result : Result Value Error) (rest : Text) → ReadsAny inner false place result rest → ReadsBelow x place result rest
+  pub reads_below : (inner : Conditions) → IsDeeper x inner → (result : Result Value Error) (rest : Text) → ReadsAny inner false place result rest
+      → ReadsBelow x place result rest
   reads_below inner d result rest h room r =
       let k = room_below x.limit inner.limit (enough_for_value false (length place.rest)) _ room d.1 r (omega arith) in
-      reads_same tree_of result _ _ rest (ap (λ n. read_below (unwraps x) n place.gap place.rest) k.is ∙ below_here (unwraps x) k.left place.gap place.rest ∙ ap (λ u. read_any u k.left false place.gap place.rest) (deeper_same x inner d)) (h k.left k.is_room)
+      reads_same tree_of result _ _ rest (ap (λ n. read_below (unwraps x) n place.gap place.rest) k.is ∙ below_here (unwraps x) k.left place.gap place.rest
+      ∙ ap (λ u. read_any u k.left false place.gap place.rest) (deeper_same x inner d)) (h k.left k.is_room)
 
 -- ---- items as a list
 
@@ -72,20 +79,25 @@ none_made true (v ∷ []) e = refl
 none_made true (v ∷ w ∷ vs) e = absurd (let lt = ltb-true (length (v ∷ w ∷ vs)) 2 e in omega (arith, lt))
 
 module _ (several : Bool) (x : Conditions) (close : ℕ) (place : Place) where
-  pub sequence_ended : one_deeper x.limit ≡ None → (room : ℕ) → IsRoom x.limit (enough_for_list (length place.rest)) room → read_sequence several (unwraps x) room close place.gap place.rest ≡ failed deep
-  sequence_ended e room r = ap (λ k. read_sequence several (unwraps x) k close place.gap place.rest) (room_ended x.limit _ room e r) ∙ sequence_deep several (unwraps x) close place.gap place.rest
+  pub sequence_ended : one_deeper x.limit ≡ None → (room : ℕ) → IsRoom x.limit (enough_for_list (length place.rest)) room
+      → read_sequence several (unwraps x) room close place.gap place.rest ≡ failed deep
+  sequence_ended e room r = ap (λ k. read_sequence several (unwraps x) k close place.gap place.rest) (room_ended x.limit _ room e r)
+      ∙ sequence_deep several (unwraps x) close place.gap place.rest
 
   module _ (inner : Conditions) (d : IsDeeper x inner) (room : ℕ) (r : IsRoom x.limit (enough_for_list (length place.rest)) room) where
     -- the room of the items
     below : RoomBelow inner.limit (enough_for_items (length place.rest)) room
     below = room_below x.limit inner.limit (enough_for_items (length place.rest)) _ room d.1 r (omega arith)
 
-    is_items : read_sequence several (unwraps x) room close place.gap place.rest ≡ meant (read_items (unwraps inner) below.left close place.gap place.rest) (items_value several)
+    is_items : read_sequence several (unwraps x) room close place.gap place.rest
+        ≡ meant (read_items (unwraps inner) below.left close place.gap place.rest) (items_value several)
     is_items =
-        ap (λ k. read_sequence several (unwraps x) k close place.gap place.rest) below.is ∙ sequence_here several (unwraps x) close place.gap place.rest below.left
+        ap (λ k. read_sequence several (unwraps x) k close place.gap place.rest) below.is
+        ∙ sequence_here several (unwraps x) close place.gap place.rest below.left
         ∙ ap (λ u. meant (read_items u below.left close place.gap place.rest) (items_value several)) (deeper_same x inner d)
 
-    pub sequence_fails : (e : Error) (rest : Text) → ReadsItems inner close place (Err e) rest → IsFaultOf (class_of e) (read_sequence several (unwraps x) room close place.gap place.rest)
+    pub sequence_fails : (e : Error) (rest : Text) → ReadsItems inner close place (Err e) rest
+        → IsFaultOf (class_of e) (read_sequence several (unwraps x) room close place.gap place.rest)
     sequence_fails e rest h = fault_of (class_of e) _ _ (λ f k. is_items ∙ ap (λ o. meant o (items_value several)) k) (h below.left below.is_room)
 
     module _ (items : Vec Value Global) (rest : Text) (h : ReadsItems inner close place (Ok items) rest) where
@@ -95,12 +107,14 @@ module _ (several : Bool) (x : Conditions) (close : ℕ) (place : Place) where
       pub too_few : several && nat_lt (length items.items) 2 ≡ true → read_sequence several (unwraps x) room close place.gap place.rest ≡ failed bad
       too_few e = are_items ∙ ap (λ o. given o rest) (none_made several items.items e)
 
-      pub sequence_read : several && nat_lt (length items.items) 2 ≡ false → read_sequence several (unwraps x) room close place.gap place.rest ≡ got (tree_of (value.Seq items)) rest
+      pub sequence_read : several && nat_lt (length items.items) 2 ≡ false
+          → read_sequence several (unwraps x) room close place.gap place.rest ≡ got (tree_of (value.Seq items)) rest
       sequence_read e = are_items ∙ ap (λ o. given o rest) (list_made several items.items e) ∙ ap (λ t. got t rest) (sym (tree_of-Seq items))
 
 -- ---- keys and values as a map
 
-map_made : (keys : Keys) (ps : List (Value × Value)) → are_names keys && nat_lt (length ps) 1 ≡ false → entries_value keys (map pair_tree ps) ≡ Some (mapped (map pair_tree ps))
+map_made : (keys : Keys) (ps : List (Value × Value)) → are_names keys && nat_lt (length ps) 1 ≡ false
+    → entries_value keys (map pair_tree ps) ≡ Some (mapped (map pair_tree ps))
 map_made Names [] e = absurd (cc)
 map_made Names (p ∷ ps) e = refl
 map_made Values ps e = refl
@@ -111,20 +125,24 @@ no_map Names (p ∷ ps) e = absurd (let lt = ltb-true (length (p ∷ ps)) 1 e in
 no_map Values ps e = absurd (cc)
 
 module _ (keys : Keys) (x : Conditions) (place : Place) where
-  pub mapping_ended : one_deeper x.limit ≡ None → (room : ℕ) → IsRoom x.limit (enough_for_list (length place.rest)) room → read_mapping keys (unwraps x) room place.gap place.rest ≡ failed deep
-  mapping_ended e room r = ap (λ k. read_mapping keys (unwraps x) k place.gap place.rest) (room_ended x.limit _ room e r) ∙ mapping_deep (unwraps x) place.gap place.rest keys
+  pub mapping_ended : one_deeper x.limit ≡ None → (room : ℕ) → IsRoom x.limit (enough_for_list (length place.rest)) room
+      → read_mapping keys (unwraps x) room place.gap place.rest ≡ failed deep
+  mapping_ended e room r =
+      ap (λ k. read_mapping keys (unwraps x) k place.gap place.rest) (room_ended x.limit _ room e r) ∙ mapping_deep (unwraps x) place.gap place.rest keys
 
   module _ (inner : Conditions) (d : IsDeeper x inner) (room : ℕ) (r : IsRoom x.limit (enough_for_list (length place.rest)) room) where
     -- the room of the keys and values
     within : RoomBelow inner.limit (enough_for_items (length place.rest)) room
     within = room_below x.limit inner.limit (enough_for_items (length place.rest)) _ room d.1 r (omega arith)
 
-    is_entries : read_mapping keys (unwraps x) room place.gap place.rest ≡ meant (read_entries keys (unwraps inner) within.left place.gap place.rest) (entries_value keys)
+    is_entries : read_mapping keys (unwraps x) room place.gap place.rest
+        ≡ meant (read_entries keys (unwraps inner) within.left place.gap place.rest) (entries_value keys)
     is_entries =
         ap (λ k. read_mapping keys (unwraps x) k place.gap place.rest) within.is ∙ mapping_here (unwraps x) place.gap place.rest keys within.left
         ∙ ap (λ u. meant (read_entries keys u within.left place.gap place.rest) (entries_value keys)) (deeper_same x inner d)
 
-    pub mapping_fails : (e : Error) (rest : Text) → ReadsEntries keys inner place (Err e) rest → IsFaultOf (class_of e) (read_mapping keys (unwraps x) room place.gap place.rest)
+    pub mapping_fails : (e : Error) (rest : Text) → ReadsEntries keys inner place (Err e) rest
+        → IsFaultOf (class_of e) (read_mapping keys (unwraps x) room place.gap place.rest)
     mapping_fails e rest h = fault_of (class_of e) _ _ (λ f k. is_entries ∙ ap (λ o. meant o (entries_value keys)) k) (h within.left within.is_room)
 
     module _ (pairs : Vec (Value × Value) Global) (rest : Text) (h : ReadsEntries keys inner place (Ok pairs) rest) where
@@ -134,7 +152,8 @@ module _ (keys : Keys) (x : Conditions) (place : Place) where
       pub no_fields : are_names keys && nat_lt (length pairs.items) 1 ≡ true → read_mapping keys (unwraps x) room place.gap place.rest ≡ failed bad
       no_fields e = are_entries ∙ ap (λ o. given o rest) (no_map keys pairs.items e)
 
-      pub mapping_read : are_names keys && nat_lt (length pairs.items) 1 ≡ false → (m : ValueMap) → entries m ≡ with_entries pairs.items [] → read_mapping keys (unwraps x) room place.gap place.rest ≡ got (tree_of (value.Map m)) rest
+      pub mapping_read : are_names keys && nat_lt (length pairs.items) 1 ≡ false → (m : ValueMap) → entries m ≡ with_entries pairs.items []
+          → read_mapping keys (unwraps x) room place.gap place.rest ≡ got (tree_of (value.Map m)) rest
       mapping_read e m k = are_entries ∙ ap (λ o. given o rest) (map_made keys pairs.items e) ∙ ap (λ t. got t rest) (mapped_is m pairs.items k)
 
 -- ---- a key and its value
@@ -180,7 +199,8 @@ module _ (b : Brackets) (x : Conditions) (place : Place) (room : ℕ) where
   pub not_opened : (e : Error) → IsMemoryOr (past_mark (open_mark b) place.rest ≡ None) e → IsFaultOf (class_of e) the_group
   not_opened e k = is_fault (class_of e) _ (memory_or_more e (λ n. group_nowhere b (unwraps x) room place.rest n) k)
 
-  module _ (r : IsRoom x.limit (enough_for_value false (length place.rest)) room) (next : Place) (p : past_mark (open_mark b) place.rest ≡ Some (next.gap, next.rest)) (shorter : length next.rest < length place.rest) where
+  module _ (r : IsRoom x.limit (enough_for_value false (length place.rest)) room) (next : Place)
+      (p : past_mark (open_mark b) place.rest ≡ Some (next.gap, next.rest)) (shorter : length next.rest < length place.rest) where
     opened : the_group ≡ closing (close_mark b) (read_inside b (unwraps x) room next.gap next.rest)
     opened = group_within b (unwraps x) room place.rest (next.gap, next.rest) p
 

@@ -255,7 +255,9 @@ module _ {depth size : ℕ} {outer : Conditions} {first : Place} {inner : Condit
         let a = h.after room r in
         a.is ∙ ap (closed_times depth) (ap (λ n. read_held (unwraps outer) n last.gap last.rest) (room_ended inner.limit _ a.left e a.is_room) ∙ goes_there 0) ∙ closed_failed depth deep
 
-    pub goes_on : (deeper : Conditions) → IsDeeper inner deeper → next.text ≡ last.text → length next.rest < length last.rest → Grows last next → (IsOpened last → (c k : ℕ) → 1 ≤ c → total_before c k 3 next ≤ total_before c k 3 last) → (IsOpened last → IsOpened next) → GoesIn (depth + 1) size outer first deeper next
+    pub goes_on : (deeper : Conditions) → IsDeeper inner deeper → next.text ≡ last.text → length next.rest < length last.rest → Grows last next
+        → (IsOpened last → (c k : ℕ) → 1 ≤ c → total_before c k 3 next ≤ total_before c k 3 last) → (IsOpened last → IsOpened next)
+        → GoesIn (depth + 1) size outer first deeper next
     goes_on deeper d e shorter grown counts opened = record {
       text = e ∙ h.text;
       extensions = d.0 ∙ h.extensions;
@@ -313,7 +315,8 @@ module _ (x : Conditions) (place : Place) (room : ℕ) where
       pub some_not_entered : (e : Error) → ((left : ℕ) → IsRoom deeper.limit (enough_for_value true (length next.rest)) left → IsFaultOf (class_of e) (read_held (unwraps deeper) left next.gap next.rest)) → IsFaultOf (class_of e) the_some
       some_not_entered e h = fault_of (class_of e) _ _ (λ f k. is_closed ∙ ap closed k) (h below.left below.is_room)
 
-      module _ (depth : ℕ) (inner : Conditions) (last : Place) (same : inner.extensions ≡ deeper.extensions) (enters : (left : ℕ) → IsRoom deeper.limit (enough_for_value true (length next.rest)) left → AfterSomes depth deeper next inner last left) where
+      module _ (depth : ℕ) (inner : Conditions) (last : Place) (same : inner.extensions ≡ deeper.extensions)
+          (enters : (left : ℕ) → IsRoom deeper.limit (enough_for_value true (length next.rest)) left → AfterSomes depth deeper next inner last left) where
         after : AfterSomes depth deeper next inner last below.left
         after = enters below.left below.is_room
 
@@ -329,7 +332,8 @@ module _ (x : Conditions) (place : Place) (room : ℕ) where
 -- ---- the way out
 
 -- a Some of what was read
-some_made : (X : Type 0) (result : Result Value Error) (t : Tree) (whole part : Got Tree) (rest : Text) → whole ≡ meant part some_value → part ≡ got t rest → MatchResult result (λ v. tree_of v ≡ tree.some t) (λ e. (e ≡ OutOfMemory) × X) → Reads tree_of result whole rest
+some_made : (X : Type 0) (result : Result Value Error) (t : Tree) (whole part : Got Tree) (rest : Text) → whole ≡ meant part some_value → part ≡ got t rest
+    → MatchResult result (λ v. tree_of v ≡ tree.some t) (λ e. (e ≡ OutOfMemory) × X) → Reads tree_of result whole rest
 some_made X (Ok v) t whole part rest w p h = w ∙ ap (λ o. meant o some_value) p ∙ ap (λ x. got x rest) (sym h)
 some_made X (Err e) t whole part rest w p h = subst (λ (x : Error). IsFaultOf (class_of x) whole) (sym h.0) tt
 
@@ -366,7 +370,8 @@ module _ {left depth : ℕ} {first : Place} {all : Value} {last : Place} {held :
     pub out_fails : (e : Error) → IsFaultOf (class_of e) (closed_within (got (tree_of held) last.rest)) → IsFaultOf (class_of e) (closed (closed_times depth (got (tree_of all) first.rest)))
     out_fails e k = fault_of (class_of e) _ _ (λ f n. ap closed (h.is ∙ closed_once left lt (got (tree_of held) last.rest) ∙ ap (closed_times (left - 1)) n ∙ closed_failed (left - 1) f)) k
 
-    pub out_on : (v : Value) (next : Place) → closed_within (got (tree_of held) last.rest) ≡ got (tree_of v) next.rest → next.text ≡ last.text → length next.rest ≤ length last.rest → Grows last next → HoldsOrder v → SettlesBehind {E = Error} last (Ok v) next → GoesOut (left - 1) depth first all next v
+    pub out_on : (v : Value) (next : Place) → closed_within (got (tree_of held) last.rest) ≡ got (tree_of v) next.rest → next.text ≡ last.text → length
+        next.rest ≤ length last.rest → Grows last next → HoldsOrder v → SettlesBehind {E = Error} last (Ok v) next → GoesOut (left - 1) depth first all next v
     out_on v next e t le grown o counts = record {
       text = t ∙ h.text;
       no_longer = let n = h.no_longer in omega (arith, n, le);

@@ -46,7 +46,8 @@ entry_put : (k v : Value) (es : Entries) → map pair_tree (insert_entry value_c
 entry_put k v [] = refl
 entry_put k v (e ∷ es) =
     elim (tree_cmp (tree_of k) (tree_of e.0)) as (λ o. map pair_tree (match_ordering o ((k, v) ∷ e ∷ es) ((e.0, v) ∷ es) (e ∷ insert_entry value_cmp es k v))
-    ≡ match_ordering o ((tree_of k, tree_of v) ∷ pair_tree e ∷ map pair_tree es) ((tree_of e.0, tree_of v) ∷ map pair_tree es) (pair_tree e ∷ insert_entry tree_cmp (map pair_tree es) (tree_of k) (tree_of v))) [
+    ≡ match_ordering o ((tree_of k, tree_of v) ∷ pair_tree e ∷ map pair_tree es) ((tree_of e.0, tree_of v) ∷ map pair_tree es)
+    (pair_tree e ∷ insert_entry tree_cmp (map pair_tree es) (tree_of k) (tree_of v))) [
       | Less ↦ refl
       | Equal ↦ refl
       | Greater ↦ ap (λ xs. pair_tree e ∷ xs) (entry_put k v es)
@@ -57,10 +58,12 @@ entries_put [] es = refl
 entries_put (p ∷ ps) es = entries_put ps (insert_entry value_cmp es p.0 p.1) ∙ ap (λ (xs : List Entry). put_in xs (map pair_tree ps)) (entry_put p.0 p.1 es)
 
 pub mapped_is : (m : ValueMap) (ps : Entries) → entries m ≡ with_entries ps [] → mapped (map pair_tree ps) ≡ tree_of (Map m)
-mapped_is m ps e = ap (λ (xs : List Entry). mapping (pairs_from xs)) (sym (entries_put ps [])) ∙ ap (λ (es : Entries). mapping (pairs_from (map pair_tree es))) (sym e) ∙ sym (tree_of-Map m)
+mapped_is m ps e = ap (λ (xs : List Entry). mapping (pairs_from xs)) (sym (entries_put ps []))
+    ∙ ap (λ (es : Entries). mapping (pairs_from (map pair_tree es))) (sym e) ∙ sym (tree_of-Map m)
 
 -- a text by its characters
-pub as_characters : (bs : List ℕ) → IsUtf8 bs → (result : Result Value Error) → MatchResult result (λ v. tree_of v ≡ text bs) (λ e. e ≡ OutOfMemory) → MatchResult result (λ v. tree_of v ≡ text (encode_utf8_all (chars bs))) (λ e. e ≡ OutOfMemory)
+pub as_characters : (bs : List ℕ) → IsUtf8 bs → (result : Result Value Error) → MatchResult result (λ v. tree_of v ≡ text bs) (λ e. e ≡ OutOfMemory)
+    → MatchResult result (λ v. tree_of v ≡ text (encode_utf8_all (chars bs))) (λ e. e ≡ OutOfMemory)
 as_characters bs u (Ok v) h = h ∙ ap text (sym (encodes-chars bs u))
 as_characters bs u (Err e) h = h
 

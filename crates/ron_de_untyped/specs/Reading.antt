@@ -9,7 +9,8 @@ use Rattle.ron_value.specs.Tree.{Tree}
 use Rattle.ron_value.specs.Tree as tree
 use Rattle.ron_spec_grammar.specs.Rule.{below}
 use Rattle.ron_spec_grammar.specs.Values.Trees.{Entry}
-use Rattle.ron_spec_grammar.specs.Values.Grammar.{ValueReaders, value_rule, value_too_deep, field_entry, pair_entry, list_value, several_value, map_value, some_value, some_content, items_inside, fields_inside, word_value, read_any, entry_with}
+use Rattle.ron_spec_grammar.specs.Values.Grammar.{ValueReaders, value_rule, value_too_deep, field_entry, pair_entry, list_value, several_value, map_value}
+use Rattle.ron_spec_grammar.specs.Values.Grammar.{some_value, some_content, items_inside, fields_inside, word_value, read_any, entry_with}
 use Rattle.ron_de_untyped.specs.declared.entries.Keys.{Keys}
 use Rattle.ron_de_untyped.specs.declared.entries.Keys.TheVariants.{Names, Values}
 use Rattle.ron_de_untyped.specs.declared.groups.Brackets as brackets
@@ -74,7 +75,8 @@ read_mapping keys unwraps room before s = needs 1 room (mapping_inside keys (bel
 abbrev pub inside : brackets.Brackets → Bool → ℕ → Text → Reader Tree
 inside brackets_.List unwraps room gap = needs 1 room (items_inside list_value right_bracket (below_levels unwraps room 1) gap)
 inside brackets_.Map unwraps room gap = needs 1 room (means (items (λ _. pair_entry (below_levels unwraps room 1)) right_brace gap) map_value)
-inside brackets_.Group unwraps room gap = needs 1 room (pick opens_field (fields_inside (below_levels unwraps room 1) gap) (items_inside list_value right_parenthesis (below_levels unwraps room 1) gap))
+inside brackets_.Group unwraps room gap = needs 1 room
+    (pick opens_field (fields_inside (below_levels unwraps room 1) gap) (items_inside list_value right_parenthesis (below_levels unwraps room 1) gap))
 
 unfoldable pub read_inside : brackets.Brackets → Bool → ℕ → Text → Reader Tree
 read_inside b unwraps room before s = inside b unwraps room before s

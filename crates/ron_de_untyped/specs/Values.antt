@@ -13,7 +13,8 @@ use Rattle.ron_de_steps.specs.Reads.{Reads}
 use Rattle.ron_de_steps.specs.Room.{IsRoom}
 use Rattle.ron_de_untyped.specs.declared.entries.Keys.{Keys}
 use Rattle.ron_de_untyped.specs.declared.groups.Brackets.{Brackets}
-use Rattle.ron_de_untyped.specs.Reading.{read_below, read_items, read_sequence, read_key, read_entry, read_entries, read_mapping, read_inside, read_group, read_held, read_some, read_word}
+use Rattle.ron_de_untyped.specs.Reading.{read_below, read_items, read_sequence, read_key, read_entry, read_entries, read_mapping, read_inside, read_group}
+use Rattle.ron_de_untyped.specs.Reading.{read_held, read_some, read_word}
 use Rattle.ron_de_untyped.specs.Room.{enough_for_items, enough_for_list, enough_inside}
 
 -- bare content stands in the parentheses of a Some

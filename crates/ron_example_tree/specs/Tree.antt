@@ -31,12 +31,14 @@ tree_table = record {
 -- the fields of a tree with these data
 abbrev pub fields_with : plain.Data → plain.Data → plain.Data → plain.Fields
 fields_with value children next =
-    plain.field_and (chars (codes "value")) value (plain.field_and (chars (codes "children")) children (plain.field_and (chars (codes "next")) next plain.no_fields))
+    plain.field_and (chars (codes "value")) value
+    (plain.field_and (chars (codes "children")) children (plain.field_and (chars (codes "next")) next plain.no_fields))
 
 -- a tree whose parts are data already
 abbrev tree_step : Tree-F plain.Data → plain.Data
 tree_step t =
-    plain.struct_of (chars (codes "Tree")) (fields_with (plain.int_of width.I32 t.value) (plain.list_of (plain.datas t.children.items)) (option_data (λ next. next.value) t.next))
+    plain.struct_of (chars (codes "Tree"))
+    (fields_with (plain.int_of width.I32 t.value) (plain.list_of (plain.datas t.children.items)) (option_data (λ next. next.value) t.next))
 
 -- what a tree stands for
 abbrev pub tree_data : Tree → plain.Data
@@ -52,4 +54,5 @@ IsTree d = (t : Tree) × (tree_data t ≡ data_view d)
 
 -- the names of a tree and of its fields
 abbrev pub AreNames : Names → Type 0
-AreNames own = (string_bytes own.tree ≡ codes "Tree") × (string_bytes own.value ≡ codes "value") × (string_bytes own.children ≡ codes "children") × (string_bytes own.next ≡ codes "next")
+AreNames own = (string_bytes own.tree ≡ codes "Tree") × (string_bytes own.value ≡ codes "value") × (string_bytes own.children ≡ codes "children")
+    × (string_bytes own.next ≡ codes "next")

@@ -16,7 +16,8 @@ use Rattle.ron.specs.WritingRefusals.{RefusesText, HoldsName}
 use Rattle.ron.specs.Whole.{RefusesDocument, RefusesDeepDocument}
 use Rattle.ron_example_types.specs.RoundTrip.{RefusesData, RefusesRoundTrip}
 
-pub refused_text : (x : Extensions) (limit : Option ℕ) (table : Table) (text : Text) (refused : SpannedError) → RefusesDocument x limit table text refused → RefusesRoundTrip x limit table text refused.code
+pub refused_text : (x : Extensions) (limit : Option ℕ) (table : Table) (text : Text) (refused : SpannedError) → RefusesDocument x limit table text refused
+    → RefusesRoundTrip x limit table text refused.code
 refused_text x limit table text refused (inl memory) = inl memory
 refused_text x limit table text refused (inr none) = inr (inl none)
 

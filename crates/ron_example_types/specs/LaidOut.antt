@@ -10,9 +10,11 @@ use Rattle.ron.specs.Table.{Table}
 use Rattle.ron.specs.Rule.{Extensions}
 use Rattle.ron.specs.Whole.{DocumentWithin, EndsDocs}
 
--- One text spells a data within the limit; the other is the data's layout, and where that tells its Somes and ends its doc comments it spells within the limit what a layout is read back as.
+-- One text spells a data within the limit; the other is the data's layout, and where that tells its Somes and ends its doc comments it spells within the limit
+-- what a layout is read back as.
 pub record LaysOut (x : Extensions) (limit : Option ℕ) (table : Table) (c : Config) (read written : Text) : Type 0 where
   pub data_of_text : plain.Data
   pub first : DocumentWithin x limit table read data_of_text
   pub text : written ≡ full_layout x c data_of_text
-  pub again : is_encodable (extensions_under x c).implicit_some data_of_text ≡ true → EndsDocs c data_of_text → (e : plain.Data) × IsReadBackWith c.number_suffixes data_of_text e × DocumentWithin x limit table written e
+  pub again : is_encodable (extensions_under x c).implicit_some data_of_text ≡ true → EndsDocs c data_of_text
+      → (e : plain.Data) × IsReadBackWith c.number_suffixes data_of_text e × DocumentWithin x limit table written e

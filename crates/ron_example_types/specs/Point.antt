@@ -51,7 +51,8 @@ pub record TellsData (x : Extensions) (d : plain.Data) (words : List ℕ) : Type
 abbrev pub TellsPoint : Text → List ℕ → Type 0
 TellsPoint text told =
     ((d : plain.Data) × DocumentWithin no_extensions (Some 128) point_table text d × TellsData no_extensions d told)
-    ⊎ ((refused : SpannedError) × ReadsText no_extensions (Some 128) point_table text (Err refused) × IfSome (spanned_text refused) (λ why. told ≡ codes "refused at " ++ why))
+    ⊎ ((refused : SpannedError) × ReadsText no_extensions (Some 128) point_table text (Err refused)
+    × IfSome (spanned_text refused) (λ why. told ≡ codes "refused at " ++ why))
 
 -- There is no memory; or the text spells data that can't be written.
 abbrev pub RefusesPoint : Text → Error → Type 0

@@ -12,4 +12,5 @@ abbrev pub shape_data : Shape → plain.Data
 shape_data Empty = variant_data (codes "Shape") (codes "Empty") no_content
 shape_data (Named s) = variant_data (codes "Shape") (codes "Named") (one_of (plain.str_of (chars (string_bytes s))))
 shape_data (Size w h) = variant_data (codes "Shape") (codes "Size") (items_of (plain.datas (plain.int_of U32 (pos w) ∷ plain.int_of U32 (pos h) ∷ [])))
-shape_data (At x s) = variant_data (codes "Shape") (codes "At") (named_of (named_fields (codes "x" ∷ codes "label" ∷ []) (plain.int_of I32 x ∷ plain.str_of (chars (string_bytes s)) ∷ [])))
+shape_data (At x s) = variant_data (codes "Shape") (codes "At")
+    (named_of (named_fields (codes "x" ∷ codes "label" ∷ []) (plain.int_of I32 x ∷ plain.str_of (chars (string_bytes s)) ∷ [])))

@@ -40,7 +40,8 @@ pub record IsTrimmed (text end rest : Text) : Type 0 where
 pub trimmed_start : (text : Text) → IsTrimmed text text text
 trimmed_start text = record { front = []; blanks = []; split = refl; behind = refl; every = tt; left = refl }
 
-pub trimmed_on : (text end rest after next : Text) (c : ℕ) → rest ≡ c ∷ after → next ≡ (if is_blank c then end else after) → IsTrimmed text end rest → IsTrimmed text next after
+pub trimmed_on : (text end rest after next : Text) (c : ℕ) → rest ≡ c ∷ after → next ≡ (if is_blank c then end else after) → IsTrimmed text end rest
+    → IsTrimmed text next after
 trimmed_on text end rest after next c e n h = go (is_blank c) refl n
   where
     behind : end ≡ (h.blanks ++ c ∷ []) ++ after
@@ -61,7 +62,8 @@ trimmed_on text end rest after next c e n h = go (is_blank c) refl n
       split = h.split ∙ ap (λ x. h.front ++ x) behind ∙ sym (append_assoc h.front (h.blanks ++ c ∷ []) after);
       behind = refl;
       every = tt;
-      left = h.left ∙ ap (λ x. h.front ++ without_last_blanks x) (h.behind ∙ ap (λ x. h.blanks ++ x) e) ∙ ap (λ x. h.front ++ x) (kept h.blanks c after k ∙ sym (append_assoc h.blanks (c ∷ []) (without_last_blanks after)))
+      left = h.left ∙ ap (λ x. h.front ++ without_last_blanks x) (h.behind ∙ ap (λ x. h.blanks ++ x) e)
+          ∙ ap (λ x. h.front ++ x) (kept h.blanks c after k ∙ sym (append_assoc h.blanks (c ∷ []) (without_last_blanks after)))
           ∙ sym (append_assoc h.front (h.blanks ++ c ∷ []) (without_last_blanks after));
     })
 

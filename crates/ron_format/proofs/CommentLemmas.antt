@@ -26,7 +26,8 @@ pub comment_front : (s rest : Text) → after_comment s ≡ Some rest → (c : �
 unfolding after_comment
 comment_front s rest e = go (opens_line s) refl (opens_block s) refl e
   where
-    go : (a : Bool) → opens_line s ≡ a → (b : Bool) → opens_block s ≡ b → cond a (Some (after_line (drop 2 s))) (cond b (after_block 0 (drop 2 s)) None) ≡ Some rest → (c : ℕ) × (t : Text) × (s ≡ c ∷ (t ++ rest))
+    go : (a : Bool) → opens_line s ≡ a → (b : Bool) → opens_block s ≡ b
+        → cond a (Some (after_line (drop 2 s))) (cond b (after_block 0 (drop 2 s)) None) ≡ Some rest → (c : ℕ) × (t : Text) × (s ≡ c ∷ (t ++ rest))
     go true k b l q =
         let h = line_end (drop 2 s) in
         let z : after_line (drop 2 s) ≡ rest = cc in
@@ -56,7 +57,8 @@ no_blank : (s : Text) → comments_of (after_run is_blank s) ≡ comments_of s
 no_blank [] = refl
 no_blank (c ∷ s) = go (is_blank c) refl (no_blank s)
   where
-    go : (b : Bool) → is_blank c ≡ b → comments_of (after_run is_blank s) ≡ comments_of s → comments_of (cond b (after_run is_blank s) (c ∷ s)) ≡ comments_of (c ∷ s)
+    go : (b : Bool) → is_blank c ≡ b → comments_of (after_run is_blank s) ≡ comments_of s
+        → comments_of (cond b (after_run is_blank s) (c ∷ s)) ≡ comments_of (c ∷ s)
     go true k h = h ∙ sym (comments-blank c s k)
     go false k h = refl
 

@@ -30,7 +30,8 @@ granted_same commas b edge wish rest e =
 -- ---- the comments of two edges, pair by pair
 
 module _ (one other : List Text) (all : Bool) (so_far : pointwise same_text one other ≡ all) where
-  pub pair_same : (x y : Text) (behind further : List Text) → one ≡ x ∷ behind → other ≡ y ∷ further → same_text x y ≡ true → pointwise same_text behind further ≡ all
+  pub pair_same : (x y : Text) (behind further : List Text) → one ≡ x ∷ behind → other ≡ y ∷ further → same_text x y ≡ true
+      → pointwise same_text behind further ≡ all
   pair_same x y behind further e f h = sym (ap₂ (λ a b. pointwise same_text a b) e f ∙ ap (λ t. t && pointwise same_text behind further) h) ∙ so_far
 
   pub pair_apart : (x y : Text) (behind further : List Text) → one ≡ x ∷ behind → other ≡ y ∷ further → same_text x y ≡ false → false ≡ all

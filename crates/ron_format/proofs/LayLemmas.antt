@@ -1,5 +1,6 @@
 -- What is written edge for edge and token for token: for `formatting.rt`.
-use Rattle.std.proofs.Common.{◌≡◌, ◌<◌, ℕ, List, Bool, true, false, if◌then◌else◌, length, nat_lt, chars, [], ◌∷◌, ◌++◌, Some, None, inl, inr, refl, sym, ap, subst, ◌∙◌, append_assoc, length-append, arith}
+use Rattle.std.proofs.Common.{◌≡◌, ◌<◌, ℕ, List, Bool, true, false, if◌then◌else◌, length, nat_lt, chars, [], ◌∷◌, ◌++◌, Some, None, inl, inr, refl, sym, ap}
+use Rattle.std.proofs.Common.{subst, ◌∙◌, append_assoc, length-append, arith}
 use Rattle.std.proofs.lemmas.Bool.{le-ltb}
 use Rattle.ron_spec_words.specs.Characters.{Text, comma}
 use Rattle.ron_spec_words.specs.Runs.{begins}
@@ -79,7 +80,8 @@ pub puts_edge : (old new edge : List ℕ) (around : Around) → IsUtf8 old → n
 puts_edge old new edge around u e = record { given = chars edge; is = put_on old new edge u e; granted = inl refl }
 
 pub puts_given : (old new given : List ℕ) (around : Around) (edge wish : Text) → IsUtf8 old → new ≡ old ++ given
-    → chars given ≡ granted (commas_at around.spot.place (chars around.rest.now)) (before_view around.spot.before) edge wish (chars around.rest.now) → PutsGranted (chars old) (chars new) around edge
+    → chars given ≡ granted (commas_at around.spot.place (chars around.rest.now)) (before_view around.spot.before) edge wish (chars around.rest.now)
+    → PutsGranted (chars old) (chars new) around edge
 puts_given old new given around edge wish u e f = record {
   given = chars given;
   is = put_on old new given u e;
@@ -87,14 +89,17 @@ puts_given old new given around edge wish u e f = record {
 }
 
 -- the edge is passed
-pub passes_edge : (around : Around) (s edge old new : Text) (next : Next) → s ≡ edge ++ chars around.rest.now → BeginsWithEdge s (chars around.rest.now) → PutsGranted old new around edge
-    → chars next.rest.now ≡ chars around.rest.now → place_view next.place ≡ place_past_edge (place_view around.spot.place) edge → PassesEdge around.spot s old new next
+pub passes_edge : (around : Around) (s edge old new : Text) (next : Next) → s ≡ edge ++ chars around.rest.now → BeginsWithEdge s (chars around.rest.now)
+    → PutsGranted old new around edge
+    → chars next.rest.now ≡ chars around.rest.now → place_view next.place ≡ place_past_edge (place_view around.spot.place) edge
+    → PassesEdge around.spot s old new next
 passes_edge around s edge old new next split h p e f = record {
   goes_on = λ text w.
       rw (e, f, p.is) (written_edge (commas_at around.spot.place rest) edge p.given rest split (edge_is s edge rest split h) p.granted (λ k. k) w);
   longest = rw e (edge_longest h.is_edge);
   ends = rw e (edge_end h);
-  whole = rw e (λ w. record { around = w.around; whole = whole_past_edge w.around (edge_is s edge rest split h) (subst (λ x. WholeFrom w.around x) split w.whole) });
+  whole = rw e
+      (λ w. record { around = w.around; whole = whole_past_edge w.around (edge_is s edge rest split h) (subst (λ x. WholeFrom w.around x) split w.whole) });
 }
   where
     rest : Text
@@ -102,18 +107,21 @@ passes_edge around s edge old new next split h p e f = record {
 
 -- ---- the pass over the text
 
-pub lay_start : (spot : Spot) (text old new : List ℕ) (next : Next) → before_view spot.before ≡ a_mark → place_view spot.place ≡ in_head → old ≡ [] → PassesEdge spot (chars text) (chars old) new next
+pub lay_start : (spot : Spot) (text old new : List ℕ) (next : Next) → before_view spot.before ≡ a_mark → place_view spot.place ≡ in_head → old ≡ []
+    → PassesEdge spot (chars text) (chars old) new next
     → WrittenToWord (place_view next.place) (chars text) new (chars next.rest.now)
 lay_start spot text old new next b p e h =
     h.goes_on (chars text) (rw (b, p, e, chars-nil) (written_start (chars text)))
 
-pub lay_on : (place : CodePlace) (spot : Spot) (text out rest t put after new : Text) (next : Next) → WrittenToWord (place_view place) text out rest → skip rest ≡ rest → token rest ≡ Some after → rest ≡ t ++ after → put ≡ out ++ t
+pub lay_on : (place : CodePlace) (spot : Spot) (text out rest t put after new : Text) (next : Next) → WrittenToWord (place_view place) text out rest
+    → skip rest ≡ rest → token rest ≡ Some after → rest ≡ t ++ after → put ≡ out ++ t
     → before_view spot.before ≡ before_edge rest → place_view spot.place ≡ place_past (place_view place) rest → PassesEdge spot after put new next
     → WrittenToWord (place_view next.place) text new (chars next.rest.now)
 lay_on place spot text out rest t put after new next w n e split m b p h =
     h.goes_on text (rw (b, p, m) (written_token t after (no_gap_next rest after n e) split e w))
 
-pub lay_shorter : (spot : Spot) (rest after old new : Text) (next : Next) → token rest ≡ Some after → PassesEdge spot after old new next → length (chars next.rest.now) < length rest
+pub lay_shorter : (spot : Spot) (rest after old new : Text) (next : Next) → token rest ≡ Some after → PassesEdge spot after old new next
+    → length (chars next.rest.now) < length rest
 lay_shorter spot rest after old new next e h =
     let f = token_front rest after e in
     omega (arith, ap length f.2, length-append f.1 after, ap length h.ends.is, length-append h.ends.front (chars next.rest.now))

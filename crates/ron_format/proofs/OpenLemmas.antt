@@ -1,5 +1,6 @@
 -- Where a bracket is left open: for the refusals of `cut.rt`.
-use Rattle.std.proofs.Common.{◌≡◌, ◌⊎◌, ◌==◌, ◌||◌, ℕ, Bool, true, false, cond, ◌&&◌, not, List, [], ◌∷◌, Option, Some, None, IfSome, is_some, inl, inr, refl, sym, ap, subst, ◌∙◌, eqb-true}
+use Rattle.std.proofs.Common.{◌≡◌, ◌⊎◌, ◌==◌, ◌||◌, ℕ, Bool, true, false, cond, ◌&&◌, not, List, [], ◌∷◌, Option, Some, None, IfSome, is_some, inl, inr, refl}
+use Rattle.std.proofs.Common.{sym, ap, subst, ◌∙◌, eqb-true}
 use Rattle.std.proofs.lemmas.Bool.{and_parts}
 use Rattle.ron_spec_words.specs.Characters.{Text}
 use Rattle.ron_spec_words.specs.Scan.{token, is_opening, is_closing}
@@ -44,7 +45,8 @@ is_false false e = refl
 misfit : (bracket t : Text) (c : ℕ) (around : List Text) → is_closing c ≡ true → closes bracket c ≡ false → next_open (bracket ∷ around) (c ∷ t) ≡ None
 misfit bracket t c around h k = go (is_opening c) (is_closing c) (closes bracket c) (closing_apart c h) h k
   where
-    go : (a b d : Bool) → a ≡ false → b ≡ true → d ≡ false → cond a (Some ((c ∷ t) ∷ (bracket ∷ around))) (cond b (cond d (Some around) None) (Some (bracket ∷ around))) ≡ None
+    go : (a b d : Bool) → a ≡ false → b ≡ true → d ≡ false
+        → cond a (Some ((c ∷ t) ∷ (bracket ∷ around))) (cond b (cond d (Some around) None) (Some (bracket ∷ around))) ≡ None
     go true b d p q r = absurd (cc)
     go false false d p q r = absurd (cc)
     go false true true p q r = absurd (cc)
@@ -84,7 +86,8 @@ next_end text around behind (c ∷ t) h k e = go (is_opening c) refl (is_closing
     go false ka true kb (o ∷ outer) m q = closed (closes o c) outer m.1 q
     go false ka false kb outer m q = let z : outer ≡ behind = cc in subst (λ x. AllEnd text x) z m
 
-all_end : {last : List Text} {end : Text} {around : List Text} {s : Text} → Leads last end around s → (text : Text) → IsSuffix s text → AllEnd text around → AllEnd text last
+all_end : {last : List Text} {end : Text} {around : List Text} {s : Text} → Leads last end around s → (text : Text) → IsSuffix s text → AllEnd text around
+    → AllEnd text last
 all_end here text h k = k
 all_end (on around behind s next e f w) text h k =
     all_end w text (end_of_end next s text (token_end s next e) h) (next_end text around behind s h k f)
@@ -96,7 +99,8 @@ bracket_end text rest bracket around e h = go around e (all_end (h.back around r
     go [] q k = absurd (cc)
     go (o ∷ x) q k = let z : o ≡ bracket = cc in subst (λ y. IsSuffix y text) z k.0
 
-pub fault_end : (text rest : Text) (around : List Text) (next : Option (List Text)) (found : BracketFault) → IsFault around next found → IsReached text around rest → IfSome (found_open found) (λ bracket. IsSuffix bracket text)
+pub fault_end : (text rest : Text) (around : List Text) (next : Option (List Text)) (found : BracketFault) → IsFault around next found
+    → IsReached text around rest → IfSome (found_open found) (λ bracket. IsSuffix bracket text)
 fault_end text rest around next found (inl m) h = subst (λ x. IfSome (found_open x) (λ bracket. IsSuffix bracket text)) (sym m) tt
 fault_end text rest around next found (inr p) h = go (found_open found) p.1
   where
@@ -110,7 +114,8 @@ pub tells_memory : (text : Text) (refusal : Refusal) → refusal.error.code ≡ 
 tells_memory text refusal e o = record { told = subst (λ x. IfSome x (IsOpening text refusal.error.span.start)) (sym o) tt; each = λ bracket rest h. inl e }
 
 -- no token leads on from here, and no bracket is at fault
-tells_none : (text rest : Text) (around : List Text) (refusal : Refusal) → IsStuck around rest → ((bracket : Text) (outer : List Text) → around ≡ bracket ∷ outer → is_not_closed bracket rest ≡ true → ⊥) → IsReached text around rest
+tells_none : (text rest : Text) (around : List Text) (refusal : Refusal) → IsStuck around rest
+    → ((bracket : Text) (outer : List Text) → around ≡ bracket ∷ outer → is_not_closed bracket rest ≡ true → ⊥) → IsReached text around rest
     → refusal.opened ≡ None → TellsOpened text refusal
 tells_none text rest around refusal k n h o = record {
   told = subst (λ x. IfSome x (IsOpening text refusal.error.span.start)) (sym o) tt;
@@ -119,11 +124,13 @@ tells_none text rest around refusal k n h o = record {
       absurd (n bracket m.around p.0 (subst (λ x. is_not_closed bracket x ≡ true) (sym p.1) m.fault));
 }
 
-pub tells_broken : (text rest : Text) (around : List Text) (refusal : Refusal) → token rest ≡ None → (rest ≡ [] → ⊥) → IsReached text around rest → refusal.opened ≡ None → TellsOpened text refusal
+pub tells_broken : (text rest : Text) (around : List Text) (refusal : Refusal) → token rest ≡ None → (rest ≡ [] → ⊥) → IsReached text around rest
+    → refusal.opened ≡ None → TellsOpened text refusal
 tells_broken text rest around refusal e n h o =
     tells_none text rest around refusal (stuck_broken around rest e) (λ bracket outer p m. n (closing_token bracket rest m e)) h o
 
-tells_left : (text rest bracket : Text) (outer around : List Text) (refusal : Refusal) → around ≡ bracket ∷ outer → is_not_closed bracket rest ≡ true → IsReached text around rest
+tells_left : (text rest bracket : Text) (outer around : List Text) (refusal : Refusal) → around ≡ bracket ∷ outer → is_not_closed bracket rest ≡ true
+    → IsReached text around rest
     → IsTold text (Some bracket) refusal.opened → IsPositionBefore text rest refusal.error.span.start → TellsOpened text refusal
 tells_left text rest bracket outer around refusal e n h t s = record { told = (go refusal.opened t).0; each = λ other end k. inr (go refusal.opened t).1 }
   where
@@ -160,14 +167,17 @@ misfit_back bracket (c ∷ t) outer e = go (is_opening c) (is_closing c) (closes
     go false true false q = refl
     go false false d q = absurd (cc)
 
-pub tells_fault : (text rest : Text) (around : List Text) (found : BracketFault) (refusal : Refusal) → IsFault around (next_open around rest) found → IsReached text around rest
-    → (found ≡ kind.OutOfMemory → refusal.error.code ≡ OutOfMemory) → IsTold text (found_open found) refusal.opened → IsPositionBefore text rest refusal.error.span.start → TellsOpened text refusal
+pub tells_fault : (text rest : Text) (around : List Text) (found : BracketFault) (refusal : Refusal) → IsFault around (next_open around rest) found
+    → IsReached text around rest
+    → (found ≡ kind.OutOfMemory → refusal.error.code ≡ OutOfMemory) → IsTold text (found_open found) refusal.opened
+    → IsPositionBefore text rest refusal.error.span.start → TellsOpened text refusal
 tells_fault text rest around found refusal (inl m) h memory t s =
     tells_memory text refusal (memory m) (subst (λ x. IsTold text (found_open x) refusal.opened) m t)
 tells_fault text rest around found refusal (inr p) h memory t s = go (found_open found) around refl p.1 t
   where
     go : (x : Option Text) (y : List Text) → around ≡ y → innermost y ≡ x → IsTold text x refusal.opened → TellsOpened text refusal
-    go None [] e i u = tells_none text rest around refusal (stuck_misfit around rest p.0) (λ bracket outer q m. let z : bracket ∷ outer ≡ [] = sym q ∙ e in cc) h u
+    go None [] e i u =
+        tells_none text rest around refusal (stuck_misfit around rest p.0) (λ bracket outer q m. let z : bracket ∷ outer ≡ [] = sym q ∙ e in cc) h u
     go None (o ∷ outer) e i u = absurd (cc)
     go (Some bracket) [] e i u = absurd (cc)
     go (Some bracket) (o ∷ outer) e i u =

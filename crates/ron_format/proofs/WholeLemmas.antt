@@ -1,5 +1,6 @@
 -- Whole texts, token by token: for the pass that cuts a text and for the one that lays it out.
-use Rattle.std.proofs.Common.{◌≡◌, ◌==◌, ◌⊎◌, ℕ, Bool, true, false, List, length, nat_lt, lt-ltb, [], ◌∷◌, ◌++◌, Some, None, inl, inr, refl, sym, ap, ap₂, subst, ◌∙◌, append_assoc, length-append, arith}
+use Rattle.std.proofs.Common.{◌≡◌, ◌==◌, ◌⊎◌, ℕ, Bool, true, false, List, length, nat_lt, lt-ltb, [], ◌∷◌, ◌++◌, Some, None, inl, inr, refl, sym, ap, ap₂}
+use Rattle.std.proofs.Common.{subst, ◌∙◌, append_assoc, length-append, arith}
 use Rattle.std.proofs.lemmas.Bool.{or_parts}
 use Rattle.std.proofs.lemmas.List.{append_cancel_right}
 use Rattle.ron_spec_words.specs.Characters.{Text, is_blank, comma, slash}
@@ -31,13 +32,15 @@ no_token : (s next : Text) → s ≡ [] → token s ≡ Some next → ⊥
 no_token s next e f = let h = token_front s next f in let x : h.0 ∷ (h.1 ++ next) ≡ [] = sym h.2 ∙ e in cc
 
 -- past the token that stands here
-past_on : (last : List Text) (end rest next : Text) (around behind : List Text) → token rest ≡ Some next → next_open around rest ≡ Some behind → IsOn last end around rest → Leads last end behind next
+past_on : (last : List Text) (end rest next : Text) (around behind : List Text) → token rest ≡ Some next → next_open around rest ≡ Some behind
+    → IsOn last end around rest → Leads last end behind next
 past_on last end rest next around behind e f k =
     let same : k.next ≡ next = let z : Some k.next ≡ Some next = sym k.is_token ∙ e in cc in
     let open_ : k.behind ≡ behind = let z : Some k.behind ≡ Some behind = sym k.opens ∙ f in cc in
     subst (λ x. Leads last end x next) open_ (subst (λ x. Leads last end k.behind x) same k.leads)
 
-pub past_token : (rest next : Text) (around behind : List Text) → token rest ≡ Some next → next_open around rest ≡ Some behind → WholeFrom around rest → WholeFrom behind next
+pub past_token : (rest next : Text) (around behind : List Text) → token rest ≡ Some next → next_open around rest ≡ Some behind → WholeFrom around rest
+    → WholeFrom behind next
 past_token rest next around behind e f w = go (cases_of w)
   where
     go : ((around ≡ []) × (rest ≡ [])) ⊎ IsOn [] [] around rest → WholeFrom behind next
@@ -73,7 +76,8 @@ pub record IsReached (text : Text) (around : List Text) (rest : Text) : Type 0 w
 pub reached_start : (text : Text) → IsReached text [] text
 reached_start text = record { back = λ last end h. h; forth = λ last end k h. h }
 
-pub reached_on : (text rest next : Text) (around behind : List Text) → token rest ≡ Some next → next_open around rest ≡ Some behind → IsReached text around rest → IsReached text behind next
+pub reached_on : (text rest next : Text) (around behind : List Text) → token rest ≡ Some next → next_open around rest ≡ Some behind → IsReached text around rest
+    → IsReached text behind next
 reached_on text rest next around behind e f h = record {
   back = λ last end w. h.back last end (on around behind rest next e f w);
   forth = λ last end k w. go last end k (cases_of (h.forth last end k w));
@@ -84,7 +88,8 @@ reached_on text rest next around behind e f h = record {
     go last end k (inr m) = past_on last end rest next around behind e f m
 
 -- where none leads on from here, this is the only place from which none does
-pub stuck_here : (text rest : Text) (around last : List Text) (end : Text) → IsStuck around rest → IsReached text around rest → IsStuck last end → Leads last end [] text → (around ≡ last) × (rest ≡ end)
+pub stuck_here : (text rest : Text) (around last : List Text) (end : Text) → IsStuck around rest → IsReached text around rest → IsStuck last end
+    → Leads last end [] text → (around ≡ last) × (rest ≡ end)
 stuck_here text rest around last end k h m w = go (cases_of (h.forth last end m w))
   where
     go : ((around ≡ last) × (rest ≡ end)) ⊎ IsOn last end around rest → (around ≡ last) × (rest ≡ end)
@@ -104,7 +109,8 @@ not_whole : (text rest : Text) (around : List Text) → IsStuck around rest → 
 not_whole text rest around k n h w = let p = stuck_here text rest around [] [] k h (stuck_end [] [] refl) w in n p.0 p.1
 
 -- a bracket doesn't fit
-pub not_closed : (text rest next : Text) (around : List Text) → token rest ≡ Some next → next_open around rest ≡ None → IsReached text around rest → IsWhole text → ⊥
+pub not_closed : (text rest next : Text) (around : List Text) → token rest ≡ Some next → next_open around rest ≡ None → IsReached text around rest
+    → IsWhole text → ⊥
 not_closed text rest next around e f h w = not_whole text rest around (stuck_misfit around rest f) (λ a b. no_token rest next b e) h w
 
 -- a token is broken
@@ -113,7 +119,8 @@ not_ended text rest around e f h w = not_whole text rest around (stuck_broken ar
 
 -- brackets are open at the end
 pub left_open : (text rest bracket : Text) (around : List Text) → rest ≡ [] → innermost around ≡ Some bracket → IsReached text around rest → IsWhole text → ⊥
-left_open text rest bracket around e f h w = not_whole text rest around (stuck_end around rest e) (λ a b. let z : None ≡ Some bracket = sym (ap innermost a) ∙ f in cc) h w
+left_open text rest bracket around e f h w =
+    not_whole text rest around (stuck_end around rest e) (λ a b. let z : None ≡ Some bracket = sym (ap innermost a) ∙ f in cc) h w
 
 pub reached_end : (text rest : Text) (around : List Text) → rest ≡ [] → around ≡ [] → IsReached text around rest → IsWhole text
 reached_end text rest around e f h = h.back [] [] (subst (λ x. Leads [] [] x rest) (sym f) (subst (λ x. Leads [] [] [] x) (sym e) here))
@@ -122,7 +129,14 @@ reached_end text rest around e f h = h.back [] [] (subst (λ x. Leads [] [] x re
 
 gap_opens : (around : List Text) (c : ℕ) (t : Text) → starts_gap c ≡ true → next_open around (c ∷ t) ≡ Some around
 gap_opens around c t e =
-    rw (apart starts_gap 40 c refl e, apart starts_gap 91 c refl e, apart starts_gap 123 c refl e, apart starts_gap 41 c refl e, apart starts_gap 93 c refl e, apart starts_gap 125 c refl e) refl
+    rw (
+      apart starts_gap 40 c refl e,
+      apart starts_gap 91 c refl e,
+      apart starts_gap 123 c refl e,
+      apart starts_gap 41 c refl e,
+      apart starts_gap 93 c refl e,
+      apart starts_gap 125 c refl e,
+    ) refl
 
 -- a gap that isn't empty is a token
 gap_token : (c : ℕ) (g rest : Text) → LongGap (c ∷ g) rest → (starts_gap c ≡ true) × (token (c ∷ (g ++ rest)) ≡ Some rest)
@@ -138,7 +152,8 @@ gap_token c g rest h = go (starts_gap c) refl
         let same : c ∷ (g ++ rest) ≡ rest = sym (skip-other c (g ++ rest) p.0 p.1) ∙ past in
         absurd (omega (arith, ap length same, length-append g rest))
     go true k =
-        let less : nat_lt (length (skip (c ∷ (g ++ rest)))) (length (c ∷ (g ++ rest))) ≡ true = lt-ltb (length (skip (c ∷ (g ++ rest)))) (length (c ∷ (g ++ rest))) (omega (arith, ap length past, length-append g rest)) in
+        let less : nat_lt (length (skip (c ∷ (g ++ rest)))) (length (c ∷ (g ++ rest))) ≡ true =
+        lt-ltb (length (skip (c ∷ (g ++ rest)))) (length (c ∷ (g ++ rest))) (omega (arith, ap length past, length-append g rest)) in
         (k, rw (k, less) (ap Some past))
 
 whole_past_gap : (around : List Text) (gap rest : Text) → LongGap gap rest → WholeFrom around (gap ++ rest) → WholeFrom around rest
@@ -152,15 +167,20 @@ pub whole_past_edge : {edge rest : Text} (around : List Text) → IsEdge edge re
 whole_past_edge around (gap_alone gap rest h) w = whole_past_gap around gap rest h w
 whole_past_edge around (with_comma gap second rest h k) w =
     let start : WholeFrom around (gap ++ comma ∷ (second ++ rest)) = subst (λ x. WholeFrom around x) (append_assoc gap (comma ∷ second) rest) w in
-    let at_comma : WholeFrom around (comma ∷ (second ++ rest)) = whole_past_gap around gap (comma ∷ (second ++ rest)) (record { is_gap = h; longest = skip-other comma (second ++ rest) refl refl }) start in
-    whole_past_gap around second rest k (past_token (comma ∷ (second ++ rest)) (second ++ rest) around around (token_mark comma (second ++ rest) refl) refl at_comma)
+    let at_comma : WholeFrom around (comma ∷ (second ++ rest)) =
+    whole_past_gap around gap (comma ∷ (second ++ rest)) (record { is_gap = h; longest = skip-other comma (second ++ rest) refl refl }) start in
+    whole_past_gap around second rest k
+    (past_token (comma ∷ (second ++ rest)) (second ++ rest) around around (token_mark comma (second ++ rest) refl) refl at_comma)
 
 pub whole_behind : (rest next : Text) → token rest ≡ Some next → IsWholeOn rest → IsWholeOn next
 whole_behind rest next e h = go (cases_of h.whole)
   where
     go : ((h.around ≡ []) × (rest ≡ [])) ⊎ IsOn [] [] h.around rest → IsWholeOn next
     go (inl p) = absurd (no_token rest next p.1 e)
-    go (inr k) = record { around = k.behind; whole = subst (λ x. WholeFrom k.behind x) (let z : Some k.next ≡ Some next = sym k.is_token ∙ e in let same : k.next ≡ next = cc in same) k.leads }
+    go (inr k) = record {
+      around = k.behind;
+      whole = subst (λ x. WholeFrom k.behind x) (let z : Some k.next ≡ Some next = sym k.is_token ∙ e in let same : k.next ≡ next = cc in same) k.leads;
+    }
 
 pub whole_ended : (rest : Text) → token rest ≡ None → IsWholeOn rest → rest ≡ []
 whole_ended rest e h = go (cases_of h.whole)

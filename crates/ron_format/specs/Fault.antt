@@ -17,7 +17,8 @@ found_open OutOfMemory = None
 found_open ClosesNone = None
 found_open (NotClosed bracket) = Some (chars bracket.now)
 
--- Within these open brackets a fault was found where a token leads on to these or to none: memory was wanting, or it leads to none, and the fault tells the innermost bracket.
+-- Within these open brackets a fault was found where a token leads on to these or to none: memory was wanting, or it leads to none, and the fault tells the
+-- innermost bracket.
 abbrev pub IsFault : List Text → Option (List Text) → BracketFault → Type 0
 IsFault around next found = (found ≡ OutOfMemory) ⊎ ((next ≡ None) × (innermost around ≡ found_open found))
 

@@ -41,7 +41,8 @@ pub record IsOpening (text : Text) (start position : Position) : Type 0 where
   pub opened : IsPositionBefore text bracket position
   pub fault : IsPositionBefore text rest start
 
--- Where a bracket is left open or closed by one of another kind, a refusal tells where it was opened, and where it is not closed; if memory is found. Else no bracket is told.
+-- Where a bracket is left open or closed by one of another kind, a refusal tells where it was opened, and where it is not closed; if memory is found. Else no
+-- bracket is told.
 pub record TellsOpened (text : Text) (refusal : Refusal) : Type 0 where
   pub told : IfSome refusal.opened (IsOpening text refusal.error.span.start)
   pub each : (bracket rest : Text) → IsLeftOpen text bracket rest → (refusal.error.code ≡ OutOfMemory) ⊎ IsSome refusal.opened

@@ -29,7 +29,8 @@ abbrev pub next_open : List Text → Text → Option (List Text)
 next_open around [] = Some around
 next_open around (c ∷ t) = next_behind around c (c ∷ t)
 
--- Tokens lead from a text, within these open brackets, to these last ones and this end of it: each token is whole, and each bracket is closed by one of its kind.
+-- Tokens lead from a text, within these open brackets, to these last ones and this end of it: each token is whole, and each bracket is closed by one of its
+-- kind.
 pub data Leads (last : List Text) (end : Text) : List Text → Text → Type 0 where
   here : Leads last end last end
   on : (around behind : List Text) (s next : Text)

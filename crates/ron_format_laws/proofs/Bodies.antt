@@ -18,10 +18,12 @@ use Rattle.ron_format_laws.proofs.Rules.{spells_kept}
 use Rattle.ron_spec_grammar.specs.Grammar.{SpellsAt}
 use Rattle.ron_spec_grammar.specs.Document.{BodyAt}
 
-pub moves_body : {commas : Text → Bool} {A : Type 0} {L : Text → Lang A} → ((before instead : Text) → Moves commas commas (L before) (L instead) FollowsValue) → (s u : Text) (a : A) → SameWords commas s u → BodyOf L s a → BodyOf L u a
+pub moves_body : {commas : Text → Bool} {A : Type 0} {L : Text → Lang A} → ((before instead : Text) → Moves commas commas (L before) (L instead) FollowsValue)
+    → (s u : Text) (a : A) → SameWords commas s u → BodyOf L s a → BodyOf L u a
 moves_body {commas} {L = L} h s u a k z =
     let x = k.gapped in
-    let same : z.value ++ z.after ≡ k.rest = sym (skip-append z.before (z.value ++ z.after) z.is_before) ∙ ap skip (sym z.split ∙ x.split) ∙ skip-append x.gap k.rest x.is_gap in
+    let same : z.value ++ z.after ≡ k.rest =
+    sym (skip-append z.before (z.value ++ z.after) z.is_before) ∙ ap skip (sym z.split ∙ x.split) ∙ skip-append x.gap k.rest x.is_gap in
     let none : skip z.after ≡ [] = skip_to_end z.after z.is_after in
     let ends : FollowsValue z.after = rw none refl in
     let y = (h z.before x.instead).over z.value z.after a z.spelled ends z.is_before.longest k.other (subst (λ w. Alike commas w k.other) (sym same) k.alike) in
@@ -42,12 +44,14 @@ moves_body {commas} {L = L} h s u a k z =
 pub keeps_values : KeepsValues
 keeps_values unwrap limit s u t k z = moves_body (λ before instead. moves_any unwrap limit before instead) s u t k z
 
-pub body_kept : {commas : Text → Bool} (at_start : Bool) (x : Extensions) (schema : List Shape) (root limit : ℕ) (s u : Text) (d : Data) → IsRawless schema → SameWords commas s u
+pub body_kept : {commas : Text → Bool} (at_start : Bool) (x : Extensions) (schema : List Shape) (root limit : ℕ) (s u : Text) (d : Data) → IsRawless schema
+    → SameWords commas s u
     → BodyAt at_start x schema root limit s d → BodyAt at_start x schema root limit u d
 body_kept at_start x schema root limit s u d rawless k z =
     let body : BodyOf (λ before. SpellsAt at_start x schema limit false root before) s d =
     record { before = z.before; value = z.value; after = z.after; split = z.split; is_before = z.is_before; spelled = z.spelled; is_after = z.is_after } in
-    let y = moves_body {L = λ before. SpellsAt at_start x schema limit false root before} (λ before instead. spells_kept x schema rawless at_start limit root before instead) s u d k body in
+    let y = moves_body {L = λ before. SpellsAt at_start x schema limit false root before}
+    (λ before instead. spells_kept x schema rawless at_start limit root before instead) s u d k body in
     record { before = y.before; value = y.value; after = y.after; split = y.split; is_before = y.is_before; spelled = y.spelled; is_after = y.is_after }
 
 pub keeps_bodies : KeepsBodies

@@ -1,5 +1,7 @@
--- The head of a text is gone over word by word, up to the body: that last commas come and go in the body alone is that they do where fewer characters are left than the body has.
-use Rattle.std.proofs.Common.{◌≡◌, ◌≤◌, ◌<◌, ℕ, Bool, true, false, ◌==◌, if◌then◌else◌, nat_lt, List, [], ◌∷◌, ◌++◌, length, Some, Option, inl, inr, refl, sym, ap, subst, ◌∙◌, arith, codes, length-append, lt-ltb, eq-eqb, eqb-true}
+-- The head of a text is gone over word by word, up to the body: that last commas come and go in the body alone is that they do where fewer characters are left
+-- than the body has.
+use Rattle.std.proofs.Common.{◌≡◌, ◌≤◌, ◌<◌, ℕ, Bool, true, false, ◌==◌, if◌then◌else◌, nat_lt, List, [], ◌∷◌, ◌++◌, length, Some, Option, inl, inr, refl, sym}
+use Rattle.std.proofs.Common.{ap, subst, ◌∙◌, arith, codes, length-append, lt-ltb, eq-eqb, eqb-true}
 use Rattle.unicode_ident.proofs.Computing.{unicode_ident}
 use Rattle.ron_spec_words.specs.Characters.{Text, comma, equals_sign, exclamation_mark, hash, left_bracket, left_parenthesis, right_bracket, right_parenthesis}
 use Rattle.ron_spec_words.specs.Runs.{begins}
@@ -48,11 +50,13 @@ step_left {rest = rest} (dropped c i b x y) = omega (arith, ap length x.split, l
 step_shorter : {k : Text → Bool} {b : Before} {s u rest other : Text} (n : ℕ) → length s < n → Step k b s u rest other → Step (shorter n) b s u rest other
 step_shorter n lt (plain x) = plain x
 step_shorter {k} {b} {s} {u} {rest} {other} n lt (added c i e x y) = added (lt-ltb (length rest) n (omega (arith, lt, behind_gap x.gap rest x.split))) i e x y
-step_shorter {k} {b} {s} {u} {rest} {other} n lt (dropped c i e x y) = dropped (lt-ltb (length rest) n (omega (arith, lt, step_left {k = k} {b = b} {u = u} {other = other} (dropped c i e x y)))) i e x y
+step_shorter {k} {b} {s} {u} {rest} {other} n lt (dropped c i e x y) =
+    dropped (lt-ltb (length rest) n (omega (arith, lt, step_left {k = k} {b = b} {u = u} {other = other} (dropped c i e x y)))) i e x y
 
 pub all_shorter : (n : ℕ) {p : Place} {s v : Text} → length s ≤ n → AlikeFrom p s v → Alike (shorter n) s v
 all_shorter n le (ended p) = alike.ended
-all_shorter n le (mark p c s u rest other m g r) = alike.mark c s u rest other m (step_shorter n (omega (arith, le)) g) (all_shorter n (omega (arith, le, step_left g)) r)
+all_shorter n le (mark p c s u rest other m g r) =
+    alike.mark c s u rest other m (step_shorter n (omega (arith, le)) g) (all_shorter n (omega (arith, le, step_left g)) r)
 all_shorter n le (word p c t s u rest other h e f g r) =
     let lt : length s < n = omega (arith, le, length-append t s) in
     alike.word c t s u rest other h e f (step_shorter n lt g) (all_shorter n (omega (arith, lt, step_left g)) r)
@@ -69,7 +73,8 @@ pub record Crosses {A : Type 0} (n : ℕ) (p q : Place) (L : Lang A) : Type 0 wh
 
 module _ (n : ℕ) where
   -- a gap, and what stands behind it
-  next_goes : {q : Place} {b : Before} {next u rest other : Text} → Goes n q (skip next) → Gapped b next u rest other → AlikeFrom q rest other → Alike (shorter n) rest other
+  next_goes : {q : Place} {b : Before} {next u rest other : Text} → Goes n q (skip next) → Gapped b next u rest other → AlikeFrom q rest other
+      → Alike (shorter n) rest other
   next_goes {q = q} {next = next} {rest = rest} {other = other} k x r =
       let same : skip next ≡ rest = ap skip x.split ∙ skip-append x.gap rest x.is_gap in
       subst (λ y. Alike (shorter n) y other) same (k other (subst (λ y. AlikeFrom q y other) (sym same) r))
@@ -80,7 +85,8 @@ module _ (n : ℕ) where
       alike.mark c next u rest other h (plain x) (next_goes k x (subst (λ y. AlikeFrom y rest other) e r))
   mark_goes {p} {q} c next m e none k v (word _ _ t s u rest other h a b g r) = absurd (let y = solid_no_mark c h in cc)
 
-  word_goes : {p q : Place} (x next : Text) → Opening x → token x ≡ Some next → ((c : ℕ) → begins (λ d. d == c) x ≡ true → is_solid c ≡ true → place_behind p c ≡ q) → commas_in q ≡ nowhere → Goes n q (skip next) → Goes n p x
+  word_goes : {p q : Place} (x next : Text) → Opening x → token x ≡ Some next
+      → ((c : ℕ) → begins (λ d. d == c) x ≡ true → is_solid c ≡ true → place_behind p c ≡ q) → commas_in q ≡ nowhere → Goes n q (skip next) → Goes n p x
   word_goes x next o a e none k v (ended p) = absurd (cc)
   word_goes x next o a e none k v (mark p c s u rest other m g r) = absurd (let y = solid_no_mark c o in cc)
   word_goes {q = q} _ next o a e none k v (word p c t s u rest other h b f g r) =
@@ -95,7 +101,8 @@ module _ (n : ℕ) where
   mark_crosses {p = p} c a m e none = record { over = λ t next b z l k. subst (λ y. Goes n p (y ++ next)) (sym z.0) (mark_goes c next m e none k) }
 
   -- in an attribute, what is one token
-  word_crosses : {A : Type 0} {L : Lang A} → First Opening L → ((t next : Text) (a : A) → L t next a → token (t ++ next) ≡ Some next) → Crosses n in_attribute in_attribute L
+  word_crosses : {A : Type 0} {L : Lang A} → First Opening L → ((t next : Text) (a : A) → L t next a → token (t ++ next) ≡ Some next)
+      → Crosses n in_attribute in_attribute L
   word_crosses o h = record { over = λ t next a z l k. word_goes (t ++ next) next (o.holds t next a z) (h t next a z) (λ c e s. stays c s) refl k }
     where
       stays : (c : ℕ) → is_solid c ≡ true → place_behind in_attribute c ≡ in_attribute
@@ -106,7 +113,9 @@ module _ (n : ℕ) where
           go true e = absurd (let same = eqb-true c right_bracket e in let y : is_solid right_bracket ≡ true = subst (λ d. is_solid d ≡ true) same s in cc)
 
   hash_crosses : Crosses n in_head in_attribute (Mark hash done)
-  hash_crosses = record { over = λ t next b z l k. subst (λ y. Goes n in_head (y ++ next)) (sym z.0) (word_goes (hash ∷ next) next refl (alone.0 next) (λ c e s. at_hash c e) refl k) }
+  hash_crosses = record {
+    over = λ t next b z l k. subst (λ y. Goes n in_head (y ++ next)) (sym z.0) (word_goes (hash ∷ next) next refl (alone.0 next) (λ c e s. at_hash c e) refl k);
+  }
     where
       at_hash : (c : ℕ) → (hash == c) ≡ true → place_behind in_head c ≡ in_attribute
       at_hash c e = let same = eqb-true hash c e in subst (λ d. place_behind in_head d ≡ in_attribute) same refl
@@ -124,7 +133,8 @@ module _ (n : ℕ) where
       both t next a (inl z) l g = h.over t next a z l g
       both t next a (inr z) l g = k.over t next a z l g
 
-  then_crosses : {A B : Type 0} {p q r : Place} {L : Lang A} {M : A → Text → Lang B} → Crosses n p q L → ((a : A) (gap : Text) → Crosses n q r (M a gap)) → Crosses n p r (Then L M)
+  then_crosses : {A B : Type 0} {p q r : Place} {L : Lang A} {M : A → Text → Lang B} → Crosses n p q L → ((a : A) (gap : Text) → Crosses n q r (M a gap))
+      → Crosses n p r (Then L M)
   then_crosses {p = p} {q = q} h k = record {
     over = λ t next b z l g.
         let behind : Text = z.right ++ next in
@@ -139,15 +149,21 @@ module _ (n : ℕ) where
     comma_crosses = mark_crosses comma done refl refl refl
 
     tail_crosses : (seen xs : List A) → Crosses {A = Done} n in_attribute in_attribute (λ t next _. Tail L seen t next xs)
-    tail_crosses seen [] = record { over = λ t next u z l g. (or_crosses (empty_crosses done) (then_crosses comma_crosses (λ _ _. empty_crosses done))).over t next done z l g }
+    tail_crosses seen [] = record {
+      over = λ t next u z l g. (or_crosses (empty_crosses done) (then_crosses comma_crosses (λ _ _. empty_crosses done))).over t next done z l g;
+    }
     tail_crosses seen (a ∷ xs) = record {
       over = λ t next u z l g.
-          (then_crosses comma_crosses (λ _ gap. then_crosses {L = At (L seen gap) a} (record { over = λ t next _ z l g. (h seen gap).over t next a z l g }) (λ _ _. tail_crosses (a ∷ seen) xs))).over t next done z l g;
+          (then_crosses comma_crosses (λ _ gap. then_crosses {L = At (L seen gap) a} (record { over = λ t next _ z l g. (h seen gap).over t next a z l g })
+          (λ _ _. tail_crosses (a ∷ seen) xs))).over t next done z l g;
     }
 
     items_over : (before : Text) (xs : List A) → Crosses {A = Done} n in_attribute in_attribute (λ t next _. Items L before t next xs)
     items_over before [] = record { over = λ t next u z l g. (empty_crosses done).over t next done (z, refl) l g }
-    items_over before (a ∷ xs) = record { over = λ t next u z l g. (then_crosses {L = At (L [] before) a} (record { over = λ t next _ z l g. (h [] before).over t next a z l g }) (λ _ _. tail_crosses (a ∷ []) xs)).over t next done z l g }
+    items_over before (a ∷ xs) = record {
+      over = λ t next u z l g. (then_crosses {L = At (L [] before) a} (record { over = λ t next _ z l g. (h [] before).over t next a z l g })
+          (λ _ _. tail_crosses (a ∷ []) xs)).over t next done z l g;
+    }
 
     items_cross : (before : Text) → Crosses n in_attribute in_attribute (Items L before)
     items_cross before = record { over = λ t next xs z l g. (items_over before xs).over t next done z l g }
@@ -155,7 +171,8 @@ module _ (n : ℕ) where
   -- ---- attributes
 
   fixed_crosses : (w : Text) → is_plain_run w ≡ true → ((next : Text) → Opening (w ++ next)) → Crosses n in_attribute in_attribute (FixedWord w done)
-  fixed_crosses w e o = word_crosses (record { holds = λ t next u z. subst (λ y. Opening (y ++ next)) (sym z.same) (o next) }) (λ t next u z. token_fixed w done e t next u z)
+  fixed_crosses w e o =
+      word_crosses (record { holds = λ t next u z. subst (λ y. Opening (y ++ next)) (sym z.same) (o next) }) (λ t next u z. token_fixed w done e t next u z)
 
   one_crosses : (c : ℕ) → is_solid c ≡ true → ((s : Text) → token (c ∷ s) ≡ Some s) → Crosses n in_attribute in_attribute (Mark c done)
   one_crosses c e k = word_crosses (first_mark Opening c done (λ s. e)) (λ t next u z. subst (λ y. token (y ++ next) ≡ Some next) (sym z.0) (k next))
@@ -163,11 +180,13 @@ module _ (n : ℕ) where
   enable_crosses : Crosses n in_attribute in_attribute Enable
   enable_crosses = then_crosses (fixed_crosses (codes "enable") plain_words.4 (λ s. refl))
       (λ _ _. then_crosses (mark_crosses left_parenthesis done refl refl refl)
-      (λ _ gap. then_crosses (means_crosses (items_cross (λ _ _. Means Name extension_of_name) (λ _ _. means_crosses (word_crosses name_opening (λ t next a z. token_name t next a z))) gap))
+      (λ _ gap. then_crosses (means_crosses
+      (items_cross (λ _ _. Means Name extension_of_name) (λ _ _. means_crosses (word_crosses name_opening (λ t next a z. token_name t next a z))) gap))
       (λ a _. mark_crosses right_parenthesis a refl refl refl)))
 
   ignored_crosses : Crosses n in_attribute in_attribute Ignored
-  ignored_crosses = then_crosses (or_crosses (fixed_crosses (codes "type") plain_words.5 (λ s. refl)) (fixed_crosses (codes "schema") plain_words.6 (λ s. refl)))
+  ignored_crosses =
+      then_crosses (or_crosses (fixed_crosses (codes "type") plain_words.5 (λ s. refl)) (fixed_crosses (codes "schema") plain_words.6 (λ s. refl)))
       (λ _ _. then_crosses (one_crosses equals_sign refl alone.2)
       (λ _ _. means_crosses (word_crosses (first_string Opening (λ s. refl) (λ s. refl)) (λ t next a z. token_string t next a z))))
 
@@ -189,9 +208,15 @@ module _ (n : ℕ) where
 -- ---- whole texts
 
 -- behind the head of a text of the same words commas come and go where less is left than the body
-pub words_of : (s u : Text) (es : List Extensions) (head body : Text) → s ≡ head ++ body → Head es head body → SameText s u → SameWords (shorter (length (skip body))) s u
+pub words_of : (s u : Text) (es : List Extensions) (head body : Text) → s ≡ head ++ body → Head es head body → SameText s u
+    → SameWords (shorter (length (skip body))) s u
 words_of s u es head body e h x =
     let n : ℕ = length (skip body) in
     let at : skip (head ++ body) ≡ x.rest = ap skip (sym e ∙ x.gapped.split) ∙ skip-append x.gapped.gap x.rest x.gapped.is_gap in
     let goes : Goes n in_head (skip (head ++ body)) = head_crosses n es head body h (λ v r. all_shorter n (omega arith) r) in
-    record { rest = x.rest; other = x.other; gapped = x.gapped; alike = subst (λ y. Alike (shorter n) y x.other) at (goes x.other (subst (λ y. AlikeFrom in_head y x.other) (sym at) x.alike)) }
+    record {
+      rest = x.rest;
+      other = x.other;
+      gapped = x.gapped;
+      alike = subst (λ y. Alike (shorter n) y x.other) at (goes x.other (subst (λ y. AlikeFrom in_head y x.other) (sym at) x.alike));
+    }

@@ -45,7 +45,8 @@ no_comma_first (c ∷ s) e = go (c == comma) refl
     go true k = absurd (let same = eqb-true c comma k in let d : is_delimiter comma ≡ false = subst (λ n. is_delimiter n ≡ false) same e in cc)
 
 -- a body begins with no comma
-body_far : (at_start : Bool) (x : Extensions) (schema : List Shape) (root limit : ℕ) (body : Text) (d : Data) → BodyAt at_start x schema root limit body d → Far (length (skip body)) body
+body_far : (at_start : Bool) (x : Extensions) (schema : List Shape) (root limit : ℕ) (body : Text) (d : Data) → BodyAt at_start x schema root limit body d
+    → Far (length (skip body)) body
 body_far at_start x schema root limit body d z =
     let at : skip body ≡ z.value ++ z.after = ap skip z.split ∙ skip-append z.before (z.value ++ z.after) z.is_before in
     let solid = ((read_fit at_start x schema limit limit (omega arith)).opens root z.before).holds z.value z.after d z.spelled in
@@ -61,7 +62,8 @@ keeps_documents x schema root limit s u d rawless k z =
     let n : ℕ = length (skip z.body) in
     let w = words_of s u z.announced z.head z.body z.split z.is_head k in
     let far = body_far (is_ended z.head) (in_force x z.announced) schema root limit z.body d z.is_body in
-    let h = head_moves n z.announced z.head z.body z.is_head far a_mark u w.rest w.other (subst (λ y. Gapped a_mark y u w.rest w.other) z.split w.gapped) w.alike in
+    let h =
+    head_moves n z.announced z.head z.body z.is_head far a_mark u w.rest w.other (subst (λ y. Gapped a_mark y u w.rest w.other) z.split w.gapped) w.alike in
     let words : SameWords (shorter n) z.body h.behind = record { rest = h.rest; other = h.other; gapped = as_mark h.gapped; alike = h.alike } in
     let same : is_ended z.head ≡ is_ended h.stretch = head_ended z.announced z.head z.body h.stretch h.behind z.is_head h.spelled in
     let kept = body_kept (is_ended z.head) (in_force x z.announced) schema root limit z.body h.behind d rawless words z.is_body in
@@ -93,7 +95,8 @@ keeps_whole_texts x schema root None s u d rawless k z =
 -- ---- what is read
 
 pub reads_documents : ReadsDocuments
-reads_documents x schema root limit s u d rawless k e = document.complete x schema root limit u d (keeps_documents x schema root limit s u d rawless k (document.sound x schema root limit s d e))
+reads_documents x schema root limit s u d rawless k e =
+    document.complete x schema root limit u d (keeps_documents x schema root limit s u d rawless k (document.sound x schema root limit s d e))
 
 pub reads_value_documents : ReadsValueDocuments
 reads_value_documents x limit s u t k e = reads_documents x (any_value ∷ []) 0 limit s u (value_of t) value_rawless k e

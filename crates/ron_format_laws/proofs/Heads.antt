@@ -48,14 +48,26 @@ far_moves : {n : ℕ} {A : Type 0} {L M : Lang A} → Moves (shorter n) (shorter
 far_moves h = record {
   over = λ t next a z f l v r.
       let x = h.over t next a z tt l v r in
-      record { stretch = x.stretch; left = x.left; split = x.split; spelled = x.spelled; before = x.before; rest = x.rest; other = x.other; step = plain (far_step f x.step); alike = x.alike };
+      record {
+        stretch = x.stretch;
+        left = x.left;
+        split = x.split;
+        spelled = x.spelled;
+        before = x.before;
+        rest = x.rest;
+        other = x.other;
+        step = plain (far_step f x.step);
+        alike = x.alike;
+      };
 }
 
 -- ---- an attribute
 
 module _ (n : ℕ) where
-  one_moves : {F : Text → Type 0} (c : ℕ) → is_solid c ≡ true → ((s : Text) → token (c ∷ s) ≡ Some s) → Moves (shorter n) (shorter n) (Mark c done) (Mark c done) F
-  one_moves c e k = word_moves (word_token (first_mark Opening c done (λ s. e)) (λ t next b z f. subst (λ w. token (w ++ next) ≡ Some next) (sym z.0) (k next)) (stable_free (record { at = λ t next u b z. z })))
+  one_moves : {F : Text → Type 0} (c : ℕ) → is_solid c ≡ true → ((s : Text) → token (c ∷ s) ≡ Some s)
+      → Moves (shorter n) (shorter n) (Mark c done) (Mark c done) F
+  one_moves c e k = word_moves (word_token (first_mark Opening c done (λ s. e)) (λ t next b z f. subst (λ w. token (w ++ next) ≡ Some next) (sym z.0) (k next))
+      (stable_free (record { at = λ t next u b z. z })))
 
   mark_onward : {B : Type 0} {M : Text → Lang B} (c : ℕ) → (is_closing c ≡ false) × ((c == comma) ≡ false) → First Onward (Then (Mark c done) (λ _ gap. M gap))
   mark_onward c e = first_then (first_mark Onward c done (λ s. e))
@@ -66,16 +78,19 @@ module _ (n : ℕ) where
   enable_moves : {F : Text → Type 0} → Moves (shorter n) (shorter n) Enable Enable F
   enable_moves = moves_on {F = Anything} (moves_fixed (codes "enable") done plain_words.4)
       (λ _ _ _. moves_group left_parenthesis right_parenthesis refl refl refl
-      (λ g o. moves_means (moves_items (λ _ _. Means Name extension_of_name) (λ _ _. Means Name extension_of_name) right_parenthesis refl refl (λ _ _. first_means name_solid) (λ _ _ _. moves_means moves_name) g o)))
+      (λ g o. moves_means (moves_items (λ _ _. Means Name extension_of_name) (λ _ _. Means Name extension_of_name) right_parenthesis refl refl
+      (λ _ _. first_means name_solid) (λ _ _ _. moves_means moves_name) g o)))
       (λ _ _ _ _ _ _ _ _. tt) (λ _ gap right next b z. (mark_onward left_parenthesis (refl, refl)).holds right next b z)
 
   ignored_moves : {F : Text → Type 0} → Moves (shorter n) (shorter n) Ignored Ignored F
   ignored_moves = moves_on {F = Anything} (moves_or (moves_fixed (codes "type") done plain_words.5) (moves_fixed (codes "schema") done plain_words.6))
-      (λ _ _ _. moves_on {F = Anything} (one_moves equals_sign refl alone.2) (λ _ _ _. moves_means moves_string) (λ _ _ _ _ _ _ _ _. tt) (λ _ gap right next b z. string_onward.holds right next b z))
+      (λ _ _ _. moves_on {F = Anything} (one_moves equals_sign refl alone.2) (λ _ _ _. moves_means moves_string) (λ _ _ _ _ _ _ _ _. tt)
+      (λ _ gap right next b z. string_onward.holds right next b z))
       (λ _ _ _ _ _ _ _ _. tt) (λ _ gap right next b z. (mark_onward equals_sign (refl, refl)).holds right next b z)
 
   -- no comma comes or goes before its `]`, where n characters or more are left behind that
-  bracket_far : (gap right next : Text) (e x : Extensions) → LongGap gap (right ++ next) → Mark right_bracket e right next x → Far n next → Far n (gap ++ (right ++ next))
+  bracket_far : (gap right next : Text) (e x : Extensions) → LongGap gap (right ++ next) → Mark right_bracket e right next x → Far n next
+      → Far n (gap ++ (right ++ next))
   bracket_far gap right next e x g z f =
       let at : skip (gap ++ (right ++ next)) ≡ right_bracket ∷ next = skip-append gap (right ++ next) g ∙ ap (λ y. y ++ next) z.0 in
       (omega (arith, f.0, length-skip next, ap length at), ap (is_at comma) at)
@@ -84,7 +99,8 @@ module _ (n : ℕ) where
   attribute_moves = moves_on {F = Anything} (one_moves hash refl alone.0)
       (λ _ _ _. moves_on {F = Anything} (one_moves exclamation_mark refl alone.1)
       (λ _ _ _. moves_then {F = Anything} (moves_mark left_bracket done refl refl)
-      (λ _ _ _. moves_then {F = Far n} (far_moves (moves_or enable_moves ignored_moves)) (λ a _ _. moves_close right_bracket a refl) (λ a gap right next b g z f. bracket_far gap right next a b g z f))
+      (λ _ _ _. moves_then {F = Far n} (far_moves (moves_or enable_moves ignored_moves)) (λ a _ _. moves_close right_bracket a refl)
+      (λ a gap right next b g z f. bracket_far gap right next a b g z f))
       (λ _ _ _ _ _ _ _ _. tt))
       (λ _ _ _ _ _ _ _ _. tt) (λ _ gap right next b z. (mark_onward left_bracket (refl, refl)).holds right next b z))
       (λ _ _ _ _ _ _ _ _. tt) (λ _ gap right next b z. (mark_onward exclamation_mark (refl, refl)).holds right next b z)
@@ -114,8 +130,19 @@ pub record MovedHead (n : ℕ) (es : List Extensions) (next left : Text) : Type 
   pub gapped : Gapped before next behind rest other
   pub alike : Alike (shorter n) rest other
 
-pub head_moves : (n : ℕ) (es : List Extensions) (t next : Text) → Head es t next → Far n next → (b : Before) (left rest other : Text) → Gapped b (t ++ next) left rest other → Alike (shorter n) rest other → MovedHead n es next left
-head_moves n [] t next z f b left rest other g r = record { stretch = []; behind = left; split = refl; spelled = refl; before = b; rest = rest; other = other; gapped = subst (λ w. Gapped b (w ++ next) left rest other) z g; alike = r }
+pub head_moves : (n : ℕ) (es : List Extensions) (t next : Text) → Head es t next → Far n next → (b : Before) (left rest other : Text)
+    → Gapped b (t ++ next) left rest other → Alike (shorter n) rest other → MovedHead n es next left
+head_moves n [] t next z f b left rest other g r = record {
+  stretch = [];
+  behind = left;
+  split = refl;
+  spelled = refl;
+  before = b;
+  rest = rest;
+  other = other;
+  gapped = subst (λ w. Gapped b (w ++ next) left rest other) z g;
+  alike = r;
+}
 head_moves n (e ∷ es) t next z f b left rest other g r =
     let behind : Text = z.rest ++ next in
     let whole : t ++ next ≡ z.gap ++ (z.attribute ++ behind) = ap (λ w. w ++ next) z.split ∙ three z.gap z.attribute z.rest next in

@@ -14,13 +14,29 @@ use Rattle.ron_format_laws.proofs.Bodies.{keeps_values}
 
 -- a raw text is a whole text of its value
 as_body : (s : Text) (t : Tree) → RawBody s t → ValueBody false raw_limit s t
-as_body s t z = record { before = z.before; value = z.core; after = z.after; split = z.split; is_before = z.is_before; spelled = z.spelled; is_after = gap_any z.is_after (λ e. absurd (cc)) [] }
+as_body s t z = record {
+  before = z.before;
+  value = z.core;
+  after = z.after;
+  split = z.split;
+  is_before = z.is_before;
+  spelled = z.spelled;
+  is_after = gap_any z.is_after (λ e. absurd (cc)) [];
+}
 
 pub keeps_raw_bodies : KeepsRawBodies
 keeps_raw_bodies s u t k closed z =
     let y = keeps_values false raw_limit s u t k (as_body s t z) in
     let ends : u ≡ (y.before ++ y.value) ++ y.after = y.split ∙ sym (append_assoc y.before y.value y.after) in
-    record { before = y.before; core = y.value; after = y.after; split = y.split; is_before = y.is_before; spelled = y.spelled; is_after = closed (y.before ++ y.value) y.after ends y.is_after }
+    record {
+      before = y.before;
+      core = y.value;
+      after = y.after;
+      split = y.split;
+      is_before = y.is_before;
+      spelled = y.spelled;
+      is_after = closed (y.before ++ y.value) y.after ends y.is_after;
+    }
 
 pub keeps_raw_texts : KeepsRawTexts
 keeps_raw_texts s u t k closed z = record { value = t; first = raw_complete s t z; second = raw_complete u t (keeps_raw_bodies s u t k closed z) }

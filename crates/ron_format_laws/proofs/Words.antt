@@ -32,14 +32,17 @@ Onward s = (begins is_closing s ≡ false) × (is_at comma s ≡ false)
 
 closing_is_not : (s : Text) → begins is_closing s ≡ true → is_at left_parenthesis s ≡ true → ⊥
 closing_is_not [] e f = cc
-closing_is_not (c ∷ s) e f = let same : c ≡ left_parenthesis = eqb-true c left_parenthesis f in let k : is_closing left_parenthesis ≡ true = subst (λ n. is_closing n ≡ true) same e in cc
+closing_is_not (c ∷ s) e f = let same : c ≡ left_parenthesis = eqb-true c left_parenthesis f in
+    let k : is_closing left_parenthesis ≡ true = subst (λ n. is_closing n ≡ true) same e in
+    cc
 
 some_solid : (s : Text) → begins is_solid (codes "Some" ++ s) ≡ true
 some_solid s = refl
 
 module _ {commas : Text → Bool} where
   -- what follows a gap there, where `(` does in the other text
-  past_gap : {s u rest other : Text} → Step commas a_word s u rest other → Alike commas rest other → is_at left_parenthesis (skip u) ≡ true → is_at left_parenthesis (skip s) ≡ true
+  past_gap : {s u rest other : Text} → Step commas a_word s u rest other → Alike commas rest other → is_at left_parenthesis (skip u) ≡ true
+      → is_at left_parenthesis (skip s) ≡ true
   past_gap {s} {u} {rest} {other} (plain x) r e =
       let k : skip u ≡ other = ap skip x.splits ∙ skip-append x.instead other x.is_other in
       let l : skip s ≡ rest = ap skip x.split ∙ skip-append x.gap rest x.is_gap in
@@ -54,7 +57,8 @@ module _ {commas : Text → Bool} where
   some_back : (s v : Text) → Alike commas s v → opens_some v ≡ true → opens_some s ≡ true
   some_back s v r e =
       let p = and_parts (stands (codes "Some") v) _ e in
-      let here : stands (codes "Some") s ≡ true = seen_same (sees_stands (codes "Some") (refl, (refl, (refl, (refl, tt))))) {s = s} {u = v} (alike_front r) ∙ p.0 in
+      let here : stands (codes "Some") s ≡ true =
+      seen_same (sees_stands (codes "Some") (refl, (refl, (refl, (refl, tt))))) {s = s} {u = v} (alike_front r) ∙ p.0 in
       let a = stands-splits (codes "Some") s here in
       let b = stands-splits (codes "Some") v p.0 in
       let x = after_word s (drop 4 s) v (rw a.0 (some_solid (drop 4 s))) (ap token a.0 ∙ run_of_word (codes "Some") (drop 4 s) plain_words.3 a.1) r in
@@ -77,14 +81,26 @@ module _ {commas : Text → Bool} where
       go false k y = either (stands (codes "None") s) (some_back s v r y)
 
   -- where a test fails that fails in the other text too
-  pub moves_unless : {m : Text → Bool} {A : Type 0} {L M : Lang A} {F : Text → Type 0} → Moves commas m L M F → Moves commas m (When (λ s. not (opens_option s)) L) (When (λ s. not (opens_option s)) M) F
+  pub moves_unless : {m : Text → Bool} {A : Type 0} {L M : Lang A} {F : Text → Type 0} → Moves commas m L M F
+      → Moves commas m (When (λ s. not (opens_option s)) L) (When (λ s. not (opens_option s)) M) F
   moves_unless h = record {
     over = λ t next a z f n v r.
         let x = h.over t next a z.1 f n v r in
-        record { stretch = x.stretch; left = x.left; split = x.split; spelled = (still_not t next v r z.0 x.stretch x.left x.split, x.spelled); before = x.before; rest = x.rest; other = x.other; step = x.step; alike = x.alike };
+        record {
+          stretch = x.stretch;
+          left = x.left;
+          split = x.split;
+          spelled = (still_not t next v r z.0 x.stretch x.left x.split, x.spelled);
+          before = x.before;
+          rest = x.rest;
+          other = x.other;
+          step = x.step;
+          alike = x.alike;
+        };
   }
     where
-      still_not : (t next v : Text) → Alike commas (t ++ next) v → not (opens_option (t ++ next)) ≡ true → (w l : Text) → v ≡ w ++ l → not (opens_option (w ++ l)) ≡ true
+      still_not : (t next v : Text) → Alike commas (t ++ next) v → not (opens_option (t ++ next)) ≡ true → (w l : Text) → v ≡ w ++ l
+          → not (opens_option (w ++ l)) ≡ true
       still_not t next v r e w l k = go (opens_option (w ++ l)) refl
         where
           go : (b : Bool) → opens_option (w ++ l) ≡ b → not b ≡ true
@@ -92,17 +108,20 @@ module _ {commas : Text → Bool} where
           go true y = let back = option_back (t ++ next) v r (ap opens_option k ∙ y) in let no = not-true _ e in absurd (cc)
 
   -- a name, and directly behind it a group
-  pub moves_tight : {A B : Type 0} {L : Lang A} {M N : Lang B} {F : Text → Type 0} → MovesWord commas L Anything → Moves commas commas M N F → First (λ s. is_at left_parenthesis s ≡ true) M
+  pub moves_tight : {A B : Type 0} {L : Lang A} {M N : Lang B} {F : Text → Type 0} → MovesWord commas L Anything → Moves commas commas M N F
+      → First (λ s. is_at left_parenthesis s ≡ true) M
       → Moves commas commas (Then L (λ _ gap. NoGap gap M)) (Then L (λ _ gap. NoGap gap N)) F
   moves_tight {A} {B} {L} {M} {N} {F} h k o = record { over = λ t next b z f n v r. tight t next b z f n v r z.gap refl }
     where
-      tight : (t next : Text) (b : B) → (z : Then L (λ _ gap. NoGap gap M) t next b) → F next → skip (t ++ next) ≡ t ++ next → (v : Text) → Alike commas (t ++ next) v → (gap : Text) → z.gap ≡ gap
+      tight : (t next : Text) (b : B) → (z : Then L (λ _ gap. NoGap gap M) t next b) → F next → skip (t ++ next) ≡ t ++ next → (v : Text)
+          → Alike commas (t ++ next) v → (gap : Text) → z.gap ≡ gap
           → Moved commas commas (Then L (λ _ g. NoGap g N)) next v b
       tight t next b z f n v r (c ∷ g) e = absurd (let y = subst (λ w. NoGap w M z.right next b) e z.second in y)
       tight t next b z f n v r [] e =
           let spelled : M z.right next b = subst (λ w. NoGap w M z.right next b) e z.second in
           let long : LongGap [] (z.right ++ next) = subst (λ w. LongGap w (z.right ++ next)) e z.is_gap in
-          let r' : Alike commas (z.left ++ (z.right ++ next)) v = subst (λ w. Alike commas (z.left ++ (w ++ (z.right ++ next))) v) e (rw (z.split, three z.left z.gap z.right next) at r) in
+          let r' : Alike commas (z.left ++ (z.right ++ next)) v =
+          subst (λ w. Alike commas (z.left ++ (w ++ (z.right ++ next))) v) e (rw (z.split, three z.left z.gap z.right next) at r) in
           let first : L z.left (z.right ++ next) z.value = subst (λ w. L z.left (w ++ (z.right ++ next)) z.value) e z.first in
           let x = h.over z.left (z.right ++ next) z.value first tt v r' in
           let open' = o.holds z.right next b spelled in
@@ -110,7 +129,8 @@ module _ {commas : Text → Bool} where
           let y = plain_step [] (z.right ++ next) refl long on.0 on.1 x.step in
           let same : z.right ++ next ≡ x.rest = same_rest [] y.gap (z.right ++ next) x.rest y.split long y.is_gap in
           let none : y.gap ≡ [] = sym (append_cancel_right [] y.gap x.rest (sym same ∙ y.split)) in
-          let gone : y.instead ≡ [] = ended_is y.instead (may_close y.instead x.rest (subst (λ w. is_at left_parenthesis w ≡ true) same open') (subst (λ g. may_replace a_word g y.instead x.rest ≡ true) none y.may)) in
+          let gone : y.instead ≡ [] = ended_is y.instead (may_close y.instead x.rest (subst (λ w. is_at left_parenthesis w ≡ true) same open')
+          (subst (λ g. may_replace a_word g y.instead x.rest ≡ true) none y.may)) in
           let left : x.left ≡ x.other = y.splits ∙ ap (λ g. g ++ x.other) gone in
           let w = k.over z.right next b spelled f long.longest x.other (subst (λ u. Alike commas u x.other) (sym same) x.alike) in
           let e' : x.left ≡ w.stretch ++ w.left = left ∙ w.split in

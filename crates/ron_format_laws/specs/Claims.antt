@@ -23,7 +23,8 @@ KeepsValues = (unwrap : Bool) (limit : ℕ) (s u : Text) (t : Tree) → SameWord
 
 -- what is read of it is read of the other
 abbrev pub ReadsValues : Type 0
-ReadsValues = (unwrap : Bool) (limit : ℕ) (s u : Text) (t : Tree) → SameWords anywhere s u → answer_value unwrap limit s ≡ got t [] → answer_value unwrap limit u ≡ got t []
+ReadsValues = (unwrap : Bool) (limit : ℕ) (s u : Text) (t : Tree) → SameWords anywhere s u → answer_value unwrap limit s ≡ got t []
+    → answer_value unwrap limit u ≡ got t []
 
 -- a body by a schema, within the same limit
 abbrev pub KeepsBodies : Type 0

@@ -27,7 +27,8 @@ abbrev pub AnswersTheSame : Result Data SpannedError → Result Data SpannedErro
 AnswersTheSame first second = IfOk first (λ d. MatchResult second (λ e. data_view e ≡ data_view d) (λ refused. refused.code ≡ OutOfMemory))
 
 abbrev pub ReadsTheSame : Type 0
-ReadsTheSame = (x : Extensions) (limit : Option ℕ) (table : Table) (s u : Text) (first second : Result Data SpannedError) → IsRawless table.shapes → SameText s u
+ReadsTheSame = (x : Extensions) (limit : Option ℕ) (table : Table) (s u : Text) (first second : Result Data SpannedError) → IsRawless table.shapes
+    → SameText s u
     → IsReadFrom x limit table s first → IsReadFrom x limit table u second → AnswersTheSame first second
 
 -- ---- without a schema
@@ -42,4 +43,5 @@ abbrev pub AnswersTheSameValue : Result Value SpannedError → Result Value Span
 AnswersTheSameValue first second = IfOk first (λ v. MatchResult second (λ w. tree_of w ≡ tree_of v) (λ refused. refused.code ≡ OutOfMemory))
 
 abbrev pub ReadsTheSameValue : Type 0
-ReadsTheSameValue = (s u : Text) (first second : Result Value SpannedError) → SameText s u → IsValueReadFrom s first → IsValueReadFrom u second → AnswersTheSameValue first second
+ReadsTheSameValue = (s u : Text) (first second : Result Value SpannedError) → SameText s u → IsValueReadFrom s first → IsValueReadFrom u second
+    → AnswersTheSameValue first second

@@ -4,7 +4,8 @@ use Rattle.ron_spec_words.specs.Characters.{Text}
 use Rattle.ron_spec_words.specs.Runs.{begins, is_at, begins_with, run_of, after_run}
 use Rattle.ron_spec_words.specs.Gap.{Gap}
 use Rattle.ron_spec_words.specs.Scan.{is_closing, is_hash, opens_raw, opens_string, opens_byte_string}
-use Rattle.ron_format_words.specs.Alike.{is_mark, is_solid, a_word, may_replace, Gapped, Step, plain, added, dropped, OnlyGap, WithLast, Alike, ended, mark, word}
+use Rattle.ron_format_words.specs.Alike.{is_mark, is_solid, a_word, may_replace, Gapped, Step, plain, added, dropped, OnlyGap, WithLast, Alike, ended, mark}
+use Rattle.ron_format_words.specs.Alike.{word}
 use Rattle.ron_format_words.proofs.Steps.{Within, stops, no_gap_within, no_stop_within, left_gap, new_gap, stops_both, solid_no_mark}
 
 -- the characters up to the first with which a gap or a mark begins
@@ -121,7 +122,8 @@ sees_with w h = record { at = at w h }
     at (c ∷ w) h [] = refl
     at (c ∷ w) h (d ∷ s) = go (at w h.1 s) (is_solid d) refl
       where
-        go : begins_with w s ≡ begins_with w (front s) → (b : Bool) → is_solid d ≡ b → ((d == c) && begins_with w s) ≡ begins_with (c ∷ w) (if b then d ∷ front s else [])
+        go : begins_with w s ≡ begins_with w (front s) → (b : Bool) → is_solid d ≡ b
+            → ((d == c) && begins_with w s) ≡ begins_with (c ∷ w) (if b then d ∷ front s else [])
         go ih true e = ap (λ x. (d == c) && x) ih
         go ih false e = no (d == c) refl
           where
@@ -136,7 +138,8 @@ sees_after p q v w = record { at = at }
     at [] = refl
     at (c ∷ s) = go (at s) (p c) refl
       where
-        go : begins q (after_run p s) ≡ begins q (after_run p (front s)) → (b : Bool) → p c ≡ b → begins q (if b then after_run p s else c ∷ s) ≡ begins q (after_run p (front (c ∷ s)))
+        go : begins q (after_run p s) ≡ begins q (after_run p (front s)) → (b : Bool) → p c ≡ b
+            → begins q (if b then after_run p s else c ∷ s) ≡ begins q (after_run p (front (c ∷ s)))
         go ih true k = rw (v c k, k) ih
         go ih false k = other (is_solid c) refl
           where
@@ -163,7 +166,8 @@ sees_raw : Sees opens_raw
 sees_raw = record { at = at }
   where
     -- behind the first character
-    behind : (c : ℕ) (s : Text) → (b : Bool) → is_solid c ≡ b → ((c == 114) && is_at 34 (after_run is_hash s)) ≡ (is_at 114 (if b then c ∷ front s else []) && is_at 34 (after_run is_hash (drop 1 (if b then c ∷ front s else []))))
+    behind : (c : ℕ) (s : Text) → (b : Bool) → is_solid c ≡ b → ((c == 114) && is_at 34 (after_run is_hash s))
+        ≡ (is_at 114 (if b then c ∷ front s else []) && is_at 34 (after_run is_hash (drop 1 (if b then c ∷ front s else []))))
     behind c s true e = ap (λ x. (c == 114) && x) ((sees_after is_hash (λ d. d == 34) hash_within (one_within 34 refl)).at s)
     behind c s false e = no (c == 114) refl
       where
@@ -181,7 +185,8 @@ sees_string = record { at = λ s. rw (← (sees_begins (λ d. d == 34) (one_with
 pub sees_byte_string : Sees opens_byte_string
 sees_byte_string = record { at = at }
   where
-    behind : (c : ℕ) (s : Text) → (b : Bool) → is_solid c ≡ b → ((c == 98) && opens_string s) ≡ (is_at 98 (if b then c ∷ front s else []) && opens_string (drop 1 (if b then c ∷ front s else [])))
+    behind : (c : ℕ) (s : Text) → (b : Bool) → is_solid c ≡ b
+        → ((c == 98) && opens_string s) ≡ (is_at 98 (if b then c ∷ front s else []) && opens_string (drop 1 (if b then c ∷ front s else [])))
     behind c s true e = ap (λ x. (c == 98) && x) (sees_string.at s)
     behind c s false e = no (c == 98) refl
       where

@@ -1,5 +1,6 @@
 -- What code finds of an edge and of a wish, in the words of the permission.
-use Rattle.std.proofs.Common.{◌≡◌, ℕ, Bool, true, false, if◌then◌else◌, cond, ◌==◌, length, length-append, nat_lt, ltb-true, drop, [], ◌∷◌, ◌++◌, ◌⊎◌, inl, inr, Some, None, refl, sym, ap, subst, ◌∙◌, append_assoc, arith}
+use Rattle.std.proofs.Common.{◌≡◌, ℕ, Bool, true, false, if◌then◌else◌, cond, ◌==◌, length, length-append, nat_lt, ltb-true, drop, [], ◌∷◌, ◌++◌, ◌⊎◌, inl, inr}
+use Rattle.std.proofs.Common.{Some, None, refl, sym, ap, subst, ◌∙◌, append_assoc, arith}
 use Rattle.std.proofs.lemmas.Slice.Eq.{bytes_eq-Decides}
 use Rattle.std.proofs.lemmas.List.{append_cancel_right}
 use Rattle.ron_spec_words.specs.Characters.{Text}
@@ -39,13 +40,16 @@ wish_alone wish e =
     (none, rw none (closed wish e))
 
 -- it is a gap, a comma and a gap
-pub wish_separated : (wish second : Text) → skip (wish ++ 44 ∷ []) ≡ (44 ∷ second) ++ 44 ∷ [] → skip (second ++ 44 ∷ []) ≡ 44 ∷ [] → (holds_comma wish ≡ true) × (is_closed_edge wish ≡ true)
+pub wish_separated : (wish second : Text) → skip (wish ++ 44 ∷ []) ≡ (44 ∷ second) ++ 44 ∷ [] → skip (second ++ 44 ∷ []) ≡ 44 ∷ []
+    → (holds_comma wish ≡ true) × (is_closed_edge wish ≡ true)
 wish_separated wish second e f =
     let c = cut (wish ++ 44 ∷ []) in
     let gap : Text = gap_of (wish ++ 44 ∷ []) in
     let is_gap : Gap gap (44 ∷ (second ++ 44 ∷ [])) = subst (λ x. Gap gap x) e c.is_gap.is_gap in
-    let split : wish ≡ gap ++ 44 ∷ second = append_cancel_right wish (gap ++ 44 ∷ second) (44 ∷ []) (c.split ∙ ap (λ x. gap ++ x) e ∙ sym (append_assoc gap (44 ∷ second) (44 ∷ []))) in
-    let behind : skip wish ≡ 44 ∷ second = ap skip split ∙ skip-gap (gap_anywhere {next = 44 ∷ (second ++ 44 ∷ [])} (44 ∷ second) (λ z. cc) is_gap) ∙ skip-other 44 second refl refl in
+    let split : wish ≡ gap ++ 44 ∷ second =
+    append_cancel_right wish (gap ++ 44 ∷ second) (44 ∷ []) (c.split ∙ ap (λ x. gap ++ x) e ∙ sym (append_assoc gap (44 ∷ second) (44 ∷ []))) in
+    let behind : skip wish ≡ 44 ∷ second =
+    ap skip split ∙ skip-gap (gap_anywhere {next = 44 ∷ (second ++ 44 ∷ [])} (44 ∷ second) (λ z. cc) is_gap) ∙ skip-other 44 second refl refl in
     (rw behind refl, rw behind (closed second f))
 
 -- ---- comments, one after the other
@@ -83,7 +87,8 @@ not_itself s e = go (opens_line s) refl (opens_block s) refl e
         let whole : s ≡ 47 ∷ 42 ∷ drop 2 s = begins-drop (47 ∷ 42 ∷ []) s k in
         absurd (omega (arith, ap length whole, ap length h.split, length-append h.inner (42 ∷ 47 ∷ s)))
 
-    go : (a : Bool) → opens_line s ≡ a → (b : Bool) → opens_block s ≡ b → cond a (Some (after_line (drop 2 s))) (cond b (after_block 0 (drop 2 s)) None) ≡ Some s → ⊥
+    go : (a : Bool) → opens_line s ≡ a → (b : Bool) → opens_block s ≡ b
+        → cond a (Some (after_line (drop 2 s))) (cond b (after_block 0 (drop 2 s)) None) ≡ Some s → ⊥
     go true k b l q = let z : after_line (drop 2 s) ≡ s = cc in of_line k z (line_found (drop 2 s))
     go false k true l q = of_block l (block_found (drop 2 s) s q)
     go false k false l q = absurd (cc)
@@ -92,4 +97,5 @@ not_itself s e = go (opens_line s) refl (opens_block s) refl e
 pub comments-taken : (s t rest : Text) → s ≡ t ++ rest → after_comment s ≡ Some rest → comments_of s ≡ without_last_blanks t ∷ comments_of rest
 comments-taken s [] rest e f = absurd (not_itself s (f ∙ ap Some (sym e)))
 comments-taken s (c ∷ t) rest e f =
-    ap comments_of e ∙ comments-comment c t rest (subst (λ x. after_comment x ≡ Some rest) e f) ∙ ap (λ x. without_last_blanks x ∷ comments_of rest) (take-front (c ∷ t) rest)
+    ap comments_of e ∙ comments-comment c t rest (subst (λ x. after_comment x ≡ Some rest) e f)
+    ∙ ap (λ x. without_last_blanks x ∷ comments_of rest) (take-front (c ∷ t) rest)

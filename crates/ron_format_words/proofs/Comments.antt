@@ -1,5 +1,6 @@
 -- Laws of comments: those of a gap are those of its pieces, whatever follows it, and a comma between two gaps adds none.
-use Rattle.std.proofs.Common.{◌≡◌, ℕ, ◌-◌, true, false, ◌==◌, length, length-append, [], ◌∷◌, ◌++◌, Some, None, refl, sym, ap, ◌∙◌, append_assoc, append-nil, arith}
+use Rattle.std.proofs.Common.{◌≡◌, ℕ, ◌-◌, true, false, ◌==◌, length, length-append, [], ◌∷◌, ◌++◌, Some, None, refl, sym, ap, ◌∙◌, append_assoc, append-nil}
+use Rattle.std.proofs.Common.{arith}
 use Rattle.ron_spec_words.specs.Characters.{Text, is_blank}
 use Rattle.ron_spec_words.specs.Gap.{Piece, blank, line, block, Gap, none, piece, last_line, after_line, after_block, after_comment}
 use Rattle.ron_spec_words.proofs.Gaps.{take-front}
@@ -21,7 +22,8 @@ unfolding comments_of comments_from
 comments-other c s e = rw e refl
 
 -- where one begins that ends before s
-pub comments-comment : (c : ℕ) (t s : Text) → after_comment (c ∷ (t ++ s)) ≡ Some s → comments_of (c ∷ (t ++ s)) ≡ comment_before s (c ∷ (t ++ s)) ∷ comments_of s
+pub comments-comment : (c : ℕ) (t s : Text) → after_comment (c ∷ (t ++ s)) ≡ Some s
+    → comments_of (c ∷ (t ++ s)) ≡ comment_before s (c ∷ (t ++ s)) ∷ comments_of s
 unfolding comments_of comments_from
 comments-comment c t s e =
     let n : length (t ++ s) - length s ≡ length t = omega (arith, length-append t s) in
@@ -57,8 +59,10 @@ comment_alone c t s ends = whole s ∙ ap (λ x. x ++ comments_of s) (sym alone)
 comments-piece : {p : Text} → Piece p → (s : Text) → comments_of (p ++ s) ≡ comments_of p ++ comments_of s
 unfolding after_comment
 comments-piece (blank c e) s = comments-blank c s e ∙ ap (λ x. x ++ comments_of s) (sym (comments-blank c [] e ∙ comments-nil))
-comments-piece (line t h) s = comment_alone 47 (47 ∷ (t ++ 10 ∷ [])) s (λ x. ap (λ y. Some (after_line y)) (append_assoc t (10 ∷ []) x) ∙ ap Some (line-end t x h))
-comments-piece (block inner h) s = comment_alone 47 (42 ∷ (inner ++ 42 ∷ 47 ∷ [])) s (λ x. ap (after_block 0) (append_assoc inner (42 ∷ 47 ∷ []) x) ∙ inside-end h 0 x)
+comments-piece (line t h) s =
+    comment_alone 47 (47 ∷ (t ++ 10 ∷ [])) s (λ x. ap (λ y. Some (after_line y)) (append_assoc t (10 ∷ []) x) ∙ ap Some (line-end t x h))
+comments-piece (block inner h) s =
+    comment_alone 47 (42 ∷ (inner ++ 42 ∷ 47 ∷ [])) s (λ x. ap (after_block 0) (append_assoc inner (42 ∷ 47 ∷ []) x) ∙ inside-end h 0 x)
 
 -- the comments of a gap, and of what follows it, where that is not the end of the text
 pub comments-gap : {g next : Text} → Gap g next → (next ≡ [] → ⊥) → (s : Text) → comments_of (g ++ s) ≡ comments_of g ++ comments_of s

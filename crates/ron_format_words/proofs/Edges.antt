@@ -1,5 +1,6 @@
 -- What stands in an edge's place, once the permission was asked, leads on as the edge did.
-use Rattle.std.proofs.Common.{◌≡◌, Bool, true, false, not, ◌||◌, ◌&&◌, if◌then◌else◌, drop, [], ◌∷◌, ◌++◌, inl, inr, refl, sym, ap, subst, ◌∙◌, append_assoc, eqb-true}
+use Rattle.std.proofs.Common.{◌≡◌, Bool, true, false, not, ◌||◌, ◌&&◌, if◌then◌else◌, drop, [], ◌∷◌, ◌++◌, inl, inr, refl, sym, ap, subst, ◌∙◌, append_assoc}
+use Rattle.std.proofs.Common.{eqb-true}
 use Rattle.std.proofs.lemmas.Slice.Eq.{bytes_eq-Decides, slice_eq-Decides}
 use Rattle.std.proofs.lemmas.List.{append_cancel_right}
 use lib.Pointwise.{pointwise}
@@ -8,9 +9,11 @@ use Rattle.ron_spec_words.specs.Runs.{begins, is_at, is_ended, same_text}
 use Rattle.ron_spec_words.specs.Gap.{Gap, LongGap, skip, gap_of, none, piece, last_line}
 use Rattle.ron_spec_words.specs.Scan.{is_closing}
 use Rattle.ron_spec_words.proofs.Gaps.{cut, skip-gap, skip_to_end, skip-other}
-use Rattle.ron_format_words.specs.Alike.{is_mark, Before, a_parenthesis, a_mark, an_end, a_word, ends_item, as_empty, may_replace, Gapped, OnlyGap, WithLast, Step, plain, added, dropped}
+use Rattle.ron_format_words.specs.Alike.{is_mark, Before, a_parenthesis, a_mark, an_end, a_word, ends_item, as_empty, may_replace, Gapped, OnlyGap, WithLast}
+use Rattle.ron_format_words.specs.Alike.{Step, plain, added, dropped}
 use Rattle.ron_format_words.specs.Comments.{comments_of}
-use Rattle.ron_format_words.specs.Edge.{IsEdge, gap_alone, with_comma, holds_comma, is_closed, is_closed_edge, takes_last_comma, may_stand, permitted, IsGranted, granted}
+use Rattle.ron_format_words.specs.Edge.{IsEdge, gap_alone, with_comma, holds_comma, is_closed, is_closed_edge, takes_last_comma, may_stand, permitted}
+use Rattle.ron_format_words.specs.Edge.{IsGranted, granted}
 use Rattle.ron_format_words.specs.Places.{Place, in_head, in_attribute, in_body, place_behind, commas_in, AlikeFrom, mark}
 use Rattle.ron_format_words.specs.Written.{place_past_edge}
 use Rattle.ron_format_words.proofs.Places.{alike_anywhere}
@@ -134,9 +137,11 @@ only_gap : (g s : Text) → LongGap g s → OnlyGap (g ++ s) s
 only_gap g s h = record { gap = g; split = refl; is_gap = h }
 
 with_last : (g second s : Text) → Gap g (44 ∷ (second ++ s)) → LongGap second s → WithLast ((g ++ 44 ∷ second) ++ s) s
-with_last g second s h k = record { gap = g; second = second; split = append_assoc g (44 ∷ second) s; is_gap = long_before_comma g (second ++ s) h; is_second = k }
+with_last g second s h k =
+    record { gap = g; second = second; split = append_assoc g (44 ∷ second) s; is_gap = long_before_comma g (second ++ s) h; is_second = k }
 
-pub gapped : (b : Before) (g h rest other : Text) → LongGap g rest → LongGap h other → may_replace b g h rest ≡ true → Gapped b (g ++ rest) (h ++ other) rest other
+pub gapped : (b : Before) (g h rest other : Text) → LongGap g rest → LongGap h other → may_replace b g h rest ≡ true
+    → Gapped b (g ++ rest) (h ++ other) rest other
 gapped b g h rest other k l m = record { gap = g; instead = h; split = refl; splits = refl; is_gap = k; is_other = l; may = m }
 
 -- last commas come and go in the body alone
@@ -160,13 +165,15 @@ body_stays in_body e false = refl
 
 module _ (k : Bool) (p : Place) (b : Before) where
   -- where one of both holds a comma, the place stays
-  stays : {rest other : Text} (x : Bool) → (k ≡ true → commas_in p rest ≡ true) → takes_last_comma k b rest ≡ true → AlikeFrom (if x then place_behind p 44 else p) rest other → AlikeFrom p rest other
+  stays : {rest other : Text} (x : Bool) → (k ≡ true → commas_in p rest ≡ true) → takes_last_comma k b rest ≡ true
+      → AlikeFrom (if x then place_behind p 44 else p) rest other → AlikeFrom p rest other
   stays {rest} {other} x at_most may r =
       let here = in_the_body p rest (at_most (ands k (ends_item b) (begins is_closing rest) may).0) in
       subst (λ q. AlikeFrom q rest other) (body_stays p here x) r
 
   -- what may stand in an edge's place leads on
-  pub leads_on : {edge given rest other : Text} → IsEdge edge rest → IsEdge given other → (k ≡ true → commas_in p rest ≡ true) → may_stand k b edge given rest ≡ true → AlikeFrom (place_past_edge p edge) rest other
+  pub leads_on : {edge given rest other : Text} → IsEdge edge rest → IsEdge given other → (k ≡ true → commas_in p rest ≡ true)
+      → may_stand k b edge given rest ≡ true → AlikeFrom (place_past_edge p edge) rest other
       → Onward p b (edge ++ rest) (given ++ other)
   leads_on (gap_alone g rest x) (gap_alone h other y) at_most m r =
       let none = alone_holds_none g rest x.is_gap in
@@ -175,16 +182,28 @@ module _ (k : Bool) (p : Place) (b : Before) where
   leads_on (gap_alone g rest x) (with_comma h second other y z) at_most m r =
       let may : takes_last_comma k b rest ≡ true = rw (alone_holds_none g rest x.is_gap, separated_holds_one h second (second ++ other) y) at m in
       let q = ands k (ends_item b) (begins is_closing rest) may in
-      record { rest = rest; other = other; step = added (at_most q.0) q.1 q.2 (only_gap g rest x) (with_last h second other y z); words = stays (holds_comma g) at_most may r }
+      record {
+        rest = rest;
+        other = other;
+        step = added (at_most q.0) q.1 q.2 (only_gap g rest x) (with_last h second other y z);
+        words = stays (holds_comma g) at_most may r;
+      }
   leads_on (with_comma g second rest x y) (gap_alone h other z) at_most m r =
       let may : takes_last_comma k b rest ≡ true = rw (separated_holds_one g second (second ++ rest) x, alone_holds_none h other z.is_gap) at m in
       let q = ands k (ends_item b) (begins is_closing rest) may in
-      record { rest = rest; other = other; step = dropped (at_most q.0) q.1 q.2 (with_last g second rest x y) (only_gap h other z); words = stays (holds_comma (g ++ 44 ∷ second)) at_most may r }
+      record {
+        rest = rest;
+        other = other;
+        step = dropped (at_most q.0) q.1 q.2 (with_last g second rest x y) (only_gap h other z);
+        words = stays (holds_comma (g ++ 44 ∷ second)) at_most may r;
+      }
   leads_on (with_comma g first rest x y) (with_comma h second other z w) at_most m r =
       let past : AlikeFrom (place_behind p 44) rest other = rw (separated_holds_one g first (first ++ rest) x) at r in
-      let step : Step (commas_in (place_behind p 44)) a_mark (first ++ rest) (second ++ other) rest other = plain (gapped a_mark first second rest other y w refl) in
+      let step : Step (commas_in (place_behind p 44)) a_mark (first ++ rest) (second ++ other) rest other =
+      plain (gapped a_mark first second rest other y w refl) in
       let gaps : Gapped b (g ++ 44 ∷ (first ++ rest)) (h ++ 44 ∷ (second ++ other)) (44 ∷ (first ++ rest)) (44 ∷ (second ++ other)) =
-      gapped b g h (44 ∷ (first ++ rest)) (44 ∷ (second ++ other)) (long_before_comma g (first ++ rest) x) (long_before_comma h (second ++ other) z) (before_comma b g h (first ++ rest)) in
+      gapped b g h (44 ∷ (first ++ rest)) (44 ∷ (second ++ other)) (long_before_comma g (first ++ rest) x) (long_before_comma h (second ++ other) z)
+      (before_comma b g h (first ++ rest)) in
       record {
         rest = 44 ∷ (first ++ rest);
         other = 44 ∷ (second ++ other);
@@ -210,28 +229,33 @@ pub record Stands (p : Place) (b : Before) (edge given rest other : Text) : Type
   pub comments : comments_of edge ≡ comments_of given
   pub onward : Onward p b (edge ++ rest) (given ++ other)
 
-pub edge_stands : (k : Bool) (p : Place) (b : Before) (edge given rest other : Text) → IsEdge edge rest → IsGranted k b edge given rest → (k ≡ true → commas_in p rest ≡ true) → AlikeFrom (place_past_edge p edge) rest other
+pub edge_stands : (k : Bool) (p : Place) (b : Before) (edge given rest other : Text) → IsEdge edge rest → IsGranted k b edge given rest
+    → (k ≡ true → commas_in p rest ≡ true) → AlikeFrom (place_past_edge p edge) rest other
     → Stands p b edge given rest other
 unfolding permitted
 edge_stands k p b edge given rest other h (inl e) at_most r =
     let still = edge_moved other (from_no_gap r) (from_nothing r) h in
-    subst (λ x. Stands p b edge x rest other) (sym e) (record { is_edge = still; comments = refl; onward = leads_on k p b h still at_most (may_stay_edge k b h) r })
+    subst (λ x. Stands p b edge x rest other) (sym e)
+    (record { is_edge = still; comments = refl; onward = leads_on k p b h still at_most (may_stay_edge k b h) r })
 edge_stands k p b edge given rest other h (inr e) at_most r =
     let q = ands (is_closed_edge given) (pointwise same_text (comments_of edge) (comments_of given)) (may_stand k b edge given rest) e in
     let there = closed_is_edge other (from_no_gap r) (is_closed_one given q.0) in
     record {
       is_edge = there;
-      comments = (slice_eq-Decides bytes_eq-Decides (comments_of edge) (comments_of given) (pointwise same_text (comments_of edge) (comments_of given)) refl).0 q.1;
+      comments =
+          (slice_eq-Decides bytes_eq-Decides (comments_of edge) (comments_of given) (pointwise same_text (comments_of edge) (comments_of given)) refl).0 q.1;
       onward = leads_on k p b h there at_most q.2 r;
     }
 
 -- ---- what is granted
 
 -- what is permitted, by its parts
-pub permitted_wish : (k : Bool) (b : Before) (edge wish rest : Text) → is_closed_edge wish ≡ true → comments_of edge ≡ comments_of wish → may_stand k b edge wish rest ≡ true → permitted k b edge wish rest ≡ true
+pub permitted_wish : (k : Bool) (b : Before) (edge wish rest : Text) → is_closed_edge wish ≡ true → comments_of edge ≡ comments_of wish
+    → may_stand k b edge wish rest ≡ true → permitted k b edge wish rest ≡ true
 unfolding permitted
 permitted_wish k b edge wish rest e f g =
-    rw (e, (slice_eq-Decides bytes_eq-Decides (comments_of edge) (comments_of wish) (pointwise same_text (comments_of edge) (comments_of wish)) refl).1 f, g) refl
+    rw (e, (slice_eq-Decides bytes_eq-Decides (comments_of edge) (comments_of wish) (pointwise same_text (comments_of edge) (comments_of wish)) refl).1 f, g)
+    refl
 
 -- the function grants
 pub is_granted : (k : Bool) (b : Before) (edge wish rest : Text) → IsGranted k b edge (granted k b edge wish rest) rest

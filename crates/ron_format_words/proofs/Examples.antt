@@ -14,7 +14,8 @@ comments : comments_of (codes " // a \t\r\n/* b /* c */ */, //") ≡ codes "// a
 unfolding comments_of comments_from after_comment
 comments = refl
 
-words_and_comments : said (codes "[ /*a*/ x,1.5 // b\n, ] ") ≡ codes "[" ∷ codes "/*a*/" ∷ codes "x" ∷ codes "1" ∷ codes "." ∷ codes "5" ∷ codes "// b" ∷ codes "]" ∷ []
+words_and_comments : said (codes "[ /*a*/ x,1.5 // b\n, ] ")
+    ≡ codes "[" ∷ codes "/*a*/" ∷ codes "x" ∷ codes "1" ∷ codes "." ∷ codes "5" ∷ codes "// b" ∷ codes "]" ∷ []
 unfolding said said_from comments_of comments_from skip skip_from gap_of after_comment token unicode_ident
 words_and_comments = refl
 
@@ -74,7 +75,8 @@ unfolding wishes all each laying
 last_comma_goes = refl
 
 -- but in an attribute neither
-attribute : each (codes "" ∷ codes "" ∷ codes "" ∷ codes "" ∷ codes "" ∷ codes "" ∷ codes "," ∷ codes "" ∷ codes "\n" ∷ codes "" ∷ codes "," ∷ []) (codes "#![enable(a)][1]") ≡ Some (codes "#![enable(a)]\n[1,]")
+attribute : each (codes "" ∷ codes "" ∷ codes "" ∷ codes "" ∷ codes "" ∷ codes "" ∷ codes "," ∷ codes "" ∷ codes "\n" ∷ codes "" ∷ codes "," ∷ [])
+    (codes "#![enable(a)][1]") ≡ Some (codes "#![enable(a)]\n[1,]")
 unfolding wishes all each laying
 attribute = refl
 

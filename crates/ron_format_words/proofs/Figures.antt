@@ -1,12 +1,14 @@
 -- Numbers and ranges in texts of the same words.
-use Rattle.std.proofs.Common.{◌≡◌, ℕ, Bool, true, false, not, ◌||◌, ◌==◌, if◌then◌else◌, [], ◌∷◌, ◌++◌, Some, None, Option, inl, inr, refl, sym, ap, ◌∙◌, codes, length, nat_lt}
+use Rattle.std.proofs.Common.{◌≡◌, ℕ, Bool, true, false, not, ◌||◌, ◌==◌, if◌then◌else◌, [], ◌∷◌, ◌++◌, Some, None, Option, inl, inr, refl, sym, ap, ◌∙◌, codes}
+use Rattle.std.proofs.Common.{length, nat_lt}
 use Rattle.std.specs.Char.{is_ascii_hexdigit}
 use Rattle.unicode_ident.proofs.Computing.{unicode_ident}
 use Rattle.ron_spec_words.specs.Characters.{Text, continues_name}
 use Rattle.ron_spec_words.specs.Runs.{begins, run_of}
 use Rattle.ron_spec_words.specs.Lang.{Means}
 use Rattle.ron_spec_words.specs.Exact.{FollowsValue}
-use Rattle.ron_spec_words.specs.Number.{Suffix, suffix_word, OptSuffix, in_number, InBase, opens_base, Magnitude, Numeral, Unsigned, Number, i8, i16, i32, i64, i128, u8, u16, u32, u64, u128}
+use Rattle.ron_spec_words.specs.Number.{Suffix, suffix_word, OptSuffix, in_number, InBase, opens_base, Magnitude, Numeral, Unsigned, Number, i8, i16, i32, i64}
+use Rattle.ron_spec_words.specs.Number.{i128, u8, u16, u32, u64, u128}
 use Rattle.ron_spec_words.specs.AnyInteger.{AnyInteger, UntypedInteger, is_float, in_float, past_sign, before_dots, opens_integer, starts_integer}
 use Rattle.ron_spec_words.specs.Range.{Interval, Points, BehindNumber, NumberOrRange, is_open, opens_points}
 use Rattle.ron_spec_words.specs.Scan.{token}
@@ -21,8 +23,10 @@ use Rattle.ron_format_words.specs.Alike.{is_solid}
 use Rattle.ron_format_words.specs.Near.{MovesWord, MovesNear}
 use Rattle.ron_format_words.proofs.Steps.{Within}
 use Rattle.ron_format_words.proofs.Ahead.{All, front, Sees, seen_same, sees_begins, sees_with, one_within}
-use Rattle.ron_format_words.proofs.Free.{free_byte, Stable, stable_free, stable_run, stable_behind, stable_means, stable_or, stable_when, stable_directly, stable_fixed, sees_not}
-use Rattle.ron_format_words.proofs.Near.{Opening, word_token, word_means, word_or, word_when, word_before, word_behind, word_directly, near_word, near_empty, near_or, sees_or, sees_run, sees_stands}
+use Rattle.ron_format_words.proofs.Free.{free_byte, Stable, stable_free, stable_run, stable_behind, stable_means, stable_or, stable_when, stable_directly}
+use Rattle.ron_format_words.proofs.Free.{stable_fixed, sees_not}
+use Rattle.ron_format_words.proofs.Near.{Opening, word_token, word_means, word_or, word_when, word_before, word_behind, word_directly, near_word, near_empty}
+use Rattle.ron_format_words.proofs.Near.{near_or, sees_or, sees_run, sees_stands}
 
 -- ---- classes
 
@@ -42,23 +46,48 @@ within_clear p k o c h =
     ) refl
 
 number_within : Within in_number
-number_within = within_clear in_number (record { stop = (refl, refl, refl, refl, refl); range = (refl, (refl, (refl, (refl, (refl, tt))))); blank = (refl, refl, refl, refl, refl, refl); slash = refl; hash = refl }) (refl, refl, refl)
+number_within = within_clear in_number (record {
+  stop = (refl, refl, refl, refl, refl);
+  range = (refl, (refl, (refl, (refl, (refl, tt)))));
+  blank = (refl, refl, refl, refl, refl, refl);
+  slash = refl;
+  hash = refl;
+}) (refl, refl, refl)
 
 float_within : Within in_float
-float_within = within_clear in_float (record { stop = (refl, refl, refl, refl, refl); range = (refl, (refl, (refl, (refl, (refl, tt))))); blank = (refl, refl, refl, refl, refl, refl); slash = refl; hash = refl }) (refl, refl, refl)
+float_within = within_clear in_float (record {
+  stop = (refl, refl, refl, refl, refl);
+  range = (refl, (refl, (refl, (refl, (refl, tt)))));
+  blank = (refl, refl, refl, refl, refl, refl);
+  slash = refl;
+  hash = refl;
+}) (refl, refl, refl)
 
 starts_within : Within starts_integer
-starts_within = within_clear starts_integer (record { stop = (refl, refl, refl, refl, refl); range = (refl, (refl, (refl, (refl, (refl, tt))))); blank = (refl, refl, refl, refl, refl, refl); slash = refl; hash = refl }) (refl, refl, refl)
+starts_within = within_clear starts_integer (record {
+  stop = (refl, refl, refl, refl, refl);
+  range = (refl, (refl, (refl, (refl, (refl, tt)))));
+  blank = (refl, refl, refl, refl, refl, refl);
+  slash = refl;
+  hash = refl;
+}) (refl, refl, refl)
 
 sign_within : (c : ℕ) → ((c == 43) || (c == 45)) ≡ true → is_solid c ≡ true
 sign_within =
     within_clear (λ c. (c == 43) || (c == 45))
-    (record { stop = (refl, refl, refl, refl, refl); range = (refl, (refl, (refl, (refl, (refl, tt))))); blank = (refl, refl, refl, refl, refl, refl); slash = refl; hash = refl }) (refl, refl, refl)
+    (record {
+      stop = (refl, refl, refl, refl, refl);
+      range = (refl, (refl, (refl, (refl, (refl, tt)))));
+      blank = (refl, refl, refl, refl, refl, refl);
+      slash = refl;
+      hash = refl;
+    }) (refl, refl, refl)
 
 -- ---- tests
 
 sees_base : Sees opens_base
-sees_base = sees_or (sees_with (codes "0b") (refl, (refl, tt))) (sees_or (sees_with (codes "0o") (refl, (refl, tt))) (sees_with (codes "0x") (refl, (refl, tt))))
+sees_base =
+    sees_or (sees_with (codes "0b") (refl, (refl, tt))) (sees_or (sees_with (codes "0o") (refl, (refl, tt))) (sees_with (codes "0x") (refl, (refl, tt))))
 
 sees_points : Sees opens_points
 sees_points = sees_with (codes "..") (refl, (refl, tt))
@@ -83,7 +112,8 @@ sign_front p w = record { at = at }
     at [] = refl
     at (c ∷ s) = go (is_solid c) refl ((c == 43) || (c == 45)) refl
       where
-        go : (b : Bool) → is_solid c ≡ b → (m : Bool) → ((c == 43) || (c == 45)) ≡ m → run_of p (if m then s else c ∷ s) ≡ run_of p (past_sign (if b then c ∷ front s else []))
+        go : (b : Bool) → is_solid c ≡ b → (m : Bool) → ((c == 43) || (c == 45)) ≡ m
+            → run_of p (if m then s else c ∷ s) ≡ run_of p (past_sign (if b then c ∷ front s else []))
         go true e true l = rw l ((sees_run p w).at s)
         go true e false l = rw l ((sees_run p w).at (c ∷ s) ∙ ap (run_of p) (kept c s e))
         go false e true l = absurd (let y = sign_within c l in cc)
@@ -122,7 +152,8 @@ stable_base base = stable_means (stable_run is_ascii_hexdigit in_number number_w
 
 stable_magnitude : Stable Magnitude
 stable_magnitude =
-    stable_or (stable_behind (stable_behind (stable_base 2))) (stable_or (stable_behind (stable_behind (stable_base 8))) (stable_or (stable_behind (stable_behind (stable_base 16))) (stable_when (sees_not sees_base) (stable_base 10))))
+    stable_or (stable_behind (stable_behind (stable_base 2))) (stable_or (stable_behind (stable_behind (stable_base 8)))
+    (stable_or (stable_behind (stable_behind (stable_base 16))) (stable_when (sees_not sees_base) (stable_base 10))))
 
 stable_unsigned : (minus : Bool) → Stable (Unsigned minus)
 stable_unsigned minus = stable_directly stable_magnitude (λ n. stable_means stable_suffix)
@@ -136,12 +167,14 @@ unsigned_opening minus = first_directly (first_magnitude Opening hex_opening)
 abbrev pub EndsRun : Text → Type 0
 EndsRun next = begins continues_name next ≡ false
 
-alone : ((s : Text) → token (43 ∷ s) ≡ Some s) × ((s : Text) → token (45 ∷ s) ≡ Some s) × ((s : Text) → token (46 ∷ s) ≡ Some s) × ((s : Text) → token (61 ∷ s) ≡ Some s)
+alone : ((s : Text) → token (43 ∷ s) ≡ Some s) × ((s : Text) → token (45 ∷ s) ≡ Some s) × ((s : Text) → token (46 ∷ s) ≡ Some s)
+    × ((s : Text) → token (61 ∷ s) ≡ Some s)
 unfolding token unicode_ident
 alone = (λ s. refl, λ s. refl, λ s. refl, λ s. refl)
 
 integer_opening : First Opening UntypedInteger
-integer_opening = first_when (λ s. not (is_float s)) (first_or (first_means (first_byte Opening (λ s. refl))) (first_number Opening (λ s. refl) (λ s. refl) hex_opening))
+integer_opening =
+    first_when (λ s. not (is_float s)) (first_or (first_means (first_byte Opening (λ s. refl))) (first_number Opening (λ s. refl) (λ s. refl) hex_opening))
 
 point_ends : continues_name 46 ≡ false
 unfolding unicode_ident
@@ -152,10 +185,12 @@ module _ {commas : Text → Bool} where
   word_unsigned minus = word_token (unsigned_opening minus) (λ t next n z f. token_unsigned minus t next n z f) (stable_unsigned minus)
 
   pub word_number : MovesWord commas Number EndsRun
-  word_number = word_or (word_behind 43 refl alone.0 (near_word (unsigned_opening false) (word_unsigned false))) (word_or (word_behind 45 refl alone.1 (near_word (unsigned_opening true) (word_unsigned true))) (word_unsigned false))
+  word_number = word_or (word_behind 43 refl alone.0 (near_word (unsigned_opening false) (word_unsigned false)))
+      (word_or (word_behind 45 refl alone.1 (near_word (unsigned_opening true) (word_unsigned true))) (word_unsigned false))
 
   pub word_any_integer : MovesWord commas AnyInteger EndsRun
-  word_any_integer = word_or (word_means (word_token (first_byte Opening (λ s. refl)) (λ t next a z f. token_byte t next a z) (stable_free free_byte))) word_number
+  word_any_integer =
+      word_or (word_means (word_token (first_byte Opening (λ s. refl)) (λ t next a z f. token_byte t next a z) (stable_free free_byte))) word_number
 
   pub word_untyped_integer : MovesWord commas UntypedInteger EndsRun
   word_untyped_integer = word_when (sees_not sees_float) word_any_integer
@@ -167,10 +202,12 @@ module _ {commas : Text → Bool} where
 
   word_points : (start : Option Numeral) → MovesWord commas (Points start) FollowsValue
   word_points start = word_behind 46 refl alone.2 (near_word (first_behind Opening 46 _ (λ s. refl)) (word_behind 46 refl alone.2
-      (near_or (near_word (first_behind Opening 61 _ (λ s. refl)) (word_behind 61 refl alone.3 (near_end _))) (near_or (near_end _) (near_empty is_open _ sees_open)))))
+      (near_or (near_word (first_behind Opening 61 _ (λ s. refl)) (word_behind 61 refl alone.3 (near_end _)))
+      (near_or (near_end _) (near_empty is_open _ sees_open)))))
 
   near_behind : (n : Numeral) → MovesNear commas (BehindNumber n) FollowsValue
-  near_behind n = near_or (near_word (first_behind Opening 46 _ (λ s. refl)) (word_points (Some n))) (near_empty (λ s. not (opens_points s)) _ (sees_not sees_points))
+  near_behind n =
+      near_or (near_word (first_behind Opening 46 _ (λ s. refl)) (word_points (Some n))) (near_empty (λ s. not (opens_points s)) _ (sees_not sees_points))
 
   pub word_number_or_range : MovesWord commas NumberOrRange FollowsValue
   word_number_or_range = word_or (word_points None) (word_directly word_untyped_integer near_behind follows)

@@ -1,5 +1,6 @@
 -- What a word spells whatever follows it, and what it spells before texts that begin alike.
-use Rattle.std.proofs.Common.{◌≡◌, ℕ, Bool, true, false, not, ◌||◌, ◌&&◌, ◌==◌, if◌then◌else◌, List, [], ◌∷◌, ◌++◌, Some, Option, inl, inr, refl, sym, ap, subst, ◌∙◌, codes, encode_utf8, cond, drop}
+use Rattle.std.proofs.Common.{◌≡◌, ℕ, Bool, true, false, not, ◌||◌, ◌&&◌, ◌==◌, if◌then◌else◌, List, [], ◌∷◌, ◌++◌, Some, Option, inl, inr, refl, sym, ap}
+use Rattle.std.proofs.Common.{subst, ◌∙◌, codes, encode_utf8, cond, drop}
 use Rattle.std.proofs.lemmas.List.{append_cancel_right}
 use Rattle.ron_spec_words.specs.Characters.{Text, continues_name, in_raw_name}
 use Rattle.ron_spec_words.specs.Runs.{begins, begins_with, is_at}
@@ -57,14 +58,28 @@ free_or {A} {L} {M} h k = record { at = both }
 free_directly : {A B : Type 0} {L : Lang A} {M : A → Lang B} → Free L → ((a : A) → Free (M a)) → Free (Directly L M)
 free_directly h k = record {
   at = λ t next u b z.
-      record { value = z.value; left = z.left; right = z.right; split = z.split; first = h.at z.left (z.right ++ next) (z.right ++ u) z.value z.first; second = (k z.value).at z.right next u b z.second };
+      record {
+        value = z.value;
+        left = z.left;
+        right = z.right;
+        split = z.split;
+        first = h.at z.left (z.right ++ next) (z.right ++ u) z.value z.first;
+        second = (k z.value).at z.right next u b z.second;
+      };
 }
 
 -- the closing character is what the first sees behind it
 free_closed : {A : Type 0} {L : Lang A} (c : ℕ) → Steady L → Free (Directly L (λ a. Mark c a))
 free_closed {A} {L} c h = record {
   at = λ t next u b z.
-      record { value = z.value; left = z.left; right = z.right; split = z.split; first = h.at z.left (z.right ++ next) (z.right ++ u) z.value z.first (λ p. rw z.second.0 refl); second = z.second };
+      record {
+        value = z.value;
+        left = z.left;
+        right = z.right;
+        split = z.split;
+        first = h.at z.left (z.right ++ next) (z.right ++ u) z.value z.first (λ p. rw z.second.0 refl);
+        second = z.second;
+      };
 }
 
 steady_run : (p q : ℕ → Bool) → Steady (Run p q)
@@ -90,7 +105,10 @@ free_byte_escape = free_behind (free_behind (free_directly (free_means free_any)
 
 free_bytes : (bs : List ℕ) → Free {A = Done} (λ t next _. HexBytes t next bs)
 free_bytes [] = record { at = λ t next u a z. z }
-free_bytes (b ∷ bs) = record { at = λ t next u a z. (free_directly {L = At HexByte b} {M = λ _ x n _. HexBytes x n bs} (record { at = λ t next u _ z. free_byte_escape.at t next u b z }) (λ _. free_bytes bs)).at t next u done z }
+free_bytes (b ∷ bs) = record {
+  at = λ t next u a z. (free_directly {L = At HexByte b} {M = λ _ x n _. HexBytes x n bs} (record { at = λ t next u _ z. free_byte_escape.at t next u b z })
+      (λ _. free_bytes bs)).at t next u done z;
+}
 
 free_character : Free HexCharacter
 free_character = record { at = λ t next u c z. (z.0, (free_bytes (encode_utf8 c)).at t next u done z.1) }
@@ -139,7 +157,9 @@ pub free_string : Free String
 free_string = free_or (free_behind (free_quoted (steady_piece _ (free_means (free_escape free_character free_unicode))))) (free_behind free_raw)
 
 pub free_byte_string : Free ByteString
-free_byte_string = free_behind (free_or (free_behind (free_quoted (steady_piece _ (free_or (free_means free_unicode) (free_means (free_escape free_byte_escape free_nothing)))))) (free_behind (free_means free_raw)))
+free_byte_string = free_behind
+    (free_or (free_behind (free_quoted (steady_piece _ (free_or (free_means free_unicode) (free_means (free_escape free_byte_escape free_nothing))))))
+    (free_behind (free_means free_raw)))
 
 -- ---- before texts of the same front
 
@@ -169,16 +189,25 @@ pub stable_when : {A : Type 0} {p : Text → Bool} {L : Lang A} → Sees p → S
 stable_when {p = p} s h = record { at = λ t next u a z e. (sym (seen_same s (same_front t next u e)) ∙ z.0, h.at t next u a z.1 e) }
 
 pub stable_not_before : {A : Type 0} {p : ℕ → Bool} {L : Lang A} → Within p → Stable L → Stable (NotBefore p L)
-stable_not_before {p = p} w h = record { at = λ t next u a z e. record { spelled = h.at t next u a z.spelled e; other = sym (seen_same (sees_begins p w) e) ∙ z.other } }
+stable_not_before {p = p} w h =
+    record { at = λ t next u a z e. record { spelled = h.at t next u a z.spelled e; other = sym (seen_same (sees_begins p w) e) ∙ z.other } }
 
 pub stable_directly : {A B : Type 0} {L : Lang A} {M : A → Lang B} → Stable L → ((a : A) → Stable (M a)) → Stable (Directly L M)
 stable_directly h k = record {
   at = λ t next u b z e.
-      record { value = z.value; left = z.left; right = z.right; split = z.split; first = h.at z.left (z.right ++ next) (z.right ++ u) z.value z.first (same_front z.right next u e); second = (k z.value).at z.right next u b z.second e };
+      record {
+        value = z.value;
+        left = z.left;
+        right = z.right;
+        split = z.split;
+        first = h.at z.left (z.right ++ next) (z.right ++ u) z.value z.first (same_front z.right next u e);
+        second = (k z.value).at z.right next u b z.second e;
+      };
 }
 
 pub stable_fixed : {A : Type 0} (w : Text) (a : A) → Stable (FixedWord w a)
-stable_fixed w a = record { at = λ t next u b z e. record { same = z.same; ends = sym (seen_same (sees_begins continues_name name_within) e) ∙ z.ends; value = z.value } }
+stable_fixed w a =
+    record { at = λ t next u b z e. record { same = z.same; ends = sym (seen_same (sees_begins continues_name name_within) e) ∙ z.ends; value = z.value } }
 
 -- ---- names
 
@@ -229,7 +258,8 @@ left_is (got a u) rest e = let same : u ≡ rest = cc in (a, ap (got a) same)
 left_is (failed f) rest e = absurd (cc)
 
 -- what a reader function leaves behind this word it leaves where the word is spelled before another text
-stays : {A : Type 0} (r : Reader A) (L : Lang A) → IsWordReader r L → (w next u : Text) → left_by (r (w ++ next)) ≡ Some next → ((a : A) → L w next a → token (w ++ u) ≡ Some u) → token (w ++ u) ≡ Some u
+stays : {A : Type 0} (r : Reader A) (L : Lang A) → IsWordReader r L → (w next u : Text) → left_by (r (w ++ next)) ≡ Some next
+    → ((a : A) → L w next a → token (w ++ u) ≡ Some u) → token (w ++ u) ≡ Some u
 stays {A} r L h w next u e k =
     let x = left_is (r (w ++ next)) next e in
     let z = h.sound (w ++ next) x.0 next x.1 in
@@ -256,7 +286,8 @@ sees_raw_name : Sees opens_raw_name
 sees_raw_name = record { at = λ s. ap (λ b. b && begins in_raw_name (drop 2 s)) ((sees_with (codes "r#") (refl, (refl, tt))).at s) ∙ inner s }
   where
     second : (c d : ℕ) (s : Text) (b : Bool) → is_solid d ≡ b
-        → (begins_with (codes "r#") (c ∷ (if b then d ∷ front s else [])) && begins in_raw_name s) ≡ (begins_with (codes "r#") (c ∷ (if b then d ∷ front s else [])) && begins in_raw_name (drop 1 (if b then d ∷ front s else [])))
+        → (begins_with (codes "r#") (c ∷ (if b then d ∷ front s else [])) && begins in_raw_name s)
+        ≡ (begins_with (codes "r#") (c ∷ (if b then d ∷ front s else [])) && begins in_raw_name (drop 1 (if b then d ∷ front s else [])))
     second c d s true e = ap (λ x. begins_with (codes "r#") (c ∷ d ∷ front s) && x) ((sees_begins in_raw_name raw_within).at s)
     second c d s false e = none (c == 114)
       where
@@ -265,18 +296,21 @@ sees_raw_name = record { at = λ s. ap (λ b. b && begins in_raw_name (drop 2 s)
         none false = refl
 
     first : (c : ℕ) (s : Text) (b : Bool) → is_solid c ≡ b
-        → (begins_with (codes "r#") (if b then c ∷ front s else []) && begins in_raw_name (drop 1 s)) ≡ (begins_with (codes "r#") (if b then c ∷ front s else []) && begins in_raw_name (drop 2 (if b then c ∷ front s else [])))
+        → (begins_with (codes "r#") (if b then c ∷ front s else []) && begins in_raw_name (drop 1 s))
+        ≡ (begins_with (codes "r#") (if b then c ∷ front s else []) && begins in_raw_name (drop 2 (if b then c ∷ front s else [])))
     first c [] true e = refl
     first c (d ∷ s) true e = second c d s (is_solid d) refl
     first c s false e = refl
 
-    inner : (s : Text) → (begins_with (codes "r#") (front s) && begins in_raw_name (drop 2 s)) ≡ (begins_with (codes "r#") (front s) && begins in_raw_name (drop 2 (front s)))
+    inner : (s : Text)
+        → (begins_with (codes "r#") (front s) && begins in_raw_name (drop 2 s)) ≡ (begins_with (codes "r#") (front s) && begins in_raw_name (drop 2 (front s)))
     inner [] = refl
     inner (c ∷ s) = first c s (is_solid c) refl
 
 pub token_stays : (c : ℕ) (t next u : Text) → is_solid c ≡ true → token (c ∷ (t ++ next)) ≡ Some next → front next ≡ front u → token (c ∷ (t ++ u)) ≡ Some u
 unfolding token
-token_stays c t next u h e k = go (opens_string s) refl (opens_byte_string s) refl (is_at 39 s) refl (begins_with (codes "b'") s) refl (opens_raw_name s) refl (begins starts_run s) refl (rw no_gap at e)
+token_stays c t next u h e k = go (opens_string s) refl (opens_byte_string s) refl (is_at 39 s) refl (begins_with (codes "b'") s) refl (opens_raw_name s) refl
+    (begins starts_run s) refl (rw no_gap at e)
   where
     s : Text
     s = c ∷ (t ++ next)
@@ -303,17 +337,24 @@ token_stays c t next u h e k = go (opens_string s) refl (opens_byte_string s) re
     past : (w : Text) → past_one (c ∷ w) ≡ Some next → w ≡ next
     past w y = cc
 
-    go : (a : Bool) → opens_string s ≡ a → (b : Bool) → opens_byte_string s ≡ b → (d : Bool) → is_at 39 s ≡ d → (f : Bool) → begins_with (codes "b'") s ≡ f → (g : Bool) → opens_raw_name s ≡ g → (m : Bool) → begins starts_run s ≡ m
-        → cond a (left_by (string s)) (cond b (left_by (byte_string s)) (cond d (left_by (char s)) (cond f (left_by (byte s)) (cond g (left_by (raw_name s)) (cond m (left_by (run starts_run continues_name s)) (past_one s))))))
+    go : (a : Bool) → opens_string s ≡ a → (b : Bool) → opens_byte_string s ≡ b → (d : Bool) → is_at 39 s ≡ d → (f : Bool) → begins_with (codes "b'") s ≡ f
+        → (g : Bool) → opens_raw_name s ≡ g → (m : Bool) → begins starts_run s ≡ m
+        → cond a (left_by (string s)) (cond b (left_by (byte_string s)) (cond d (left_by (char s))
+        (cond f (left_by (byte s)) (cond g (left_by (raw_name s)) (cond m (left_by (run starts_run continues_name s)) (past_one s))))))
         ≡ Some next → token v ≡ Some u
-    go true ea b eb d ed f ef g eg m em y = stays string String word_string (c ∷ t) next u y (λ a z. token_string (c ∷ t) u a (free_string.at (c ∷ t) next u a z))
-    go false ea true eb d ed f ef g eg m em y = stays byte_string ByteString word_byte_string (c ∷ t) next u y (λ a z. token_byte_string (c ∷ t) u a (free_byte_string.at (c ∷ t) next u a z))
+    go true ea b eb d ed f ef g eg m em y =
+        stays string String word_string (c ∷ t) next u y (λ a z. token_string (c ∷ t) u a (free_string.at (c ∷ t) next u a z))
+    go false ea true eb d ed f ef g eg m em y =
+        stays byte_string ByteString word_byte_string (c ∷ t) next u y (λ a z. token_byte_string (c ∷ t) u a (free_byte_string.at (c ∷ t) next u a z))
     go false ea false eb true ed f ef g eg m em y = stays char Char word_char (c ∷ t) next u y (λ a z. token_char (c ∷ t) u a (free_char.at (c ∷ t) next u a z))
-    go false ea false eb false ed true ef g eg m em y = stays byte Byte word_byte (c ∷ t) next u y (λ a z. token_byte (c ∷ t) u a (free_byte.at (c ∷ t) next u a z))
-    go false ea false eb false ed false ef true eg m em y = stays raw_name RawName word_raw_name (c ∷ t) next u y (λ a z. token_raw_name (c ∷ t) u a (stable_raw_name.at (c ∷ t) next u a z k))
+    go false ea false eb false ed true ef g eg m em y =
+        stays byte Byte word_byte (c ∷ t) next u y (λ a z. token_byte (c ∷ t) u a (free_byte.at (c ∷ t) next u a z))
+    go false ea false eb false ed false ef true eg m em y =
+        stays raw_name RawName word_raw_name (c ∷ t) next u y (λ a z. token_raw_name (c ∷ t) u a (stable_raw_name.at (c ∷ t) next u a z k))
     go false ea false eb false ed false ef false eg true em y =
         stays (run starts_run continues_name) (Run starts_run continues_name) (word_run starts_run continues_name) (c ∷ t) next u y
-        (λ a z. run_token v u (tests ea eb ed ef eg) em (ap left_by ((word_run starts_run continues_name).complete (c ∷ t) u a ((stable_run starts_run continues_name name_within).at (c ∷ t) next u a z k)).answer))
+        (λ a z. run_token v u (tests ea eb ed ef eg) em (ap left_by
+        ((word_run starts_run continues_name).complete (c ∷ t) u a ((stable_run starts_run continues_name name_within).at (c ∷ t) next u a z k)).answer))
     go false ea false eb false ed false ef false eg false em y =
         let none : [] ≡ t = append_cancel_right [] t next (sym (past (t ++ next) y)) in
         subst (λ w. token (c ∷ (w ++ u)) ≡ Some u) none (one_token c u (subst (λ w. Tests (c ∷ (w ++ u))) (sym none) (tests ea eb ed ef eg)) em)

@@ -10,13 +10,15 @@ use Rattle.ron_spec_words.specs.Exact.{Before as Before', FollowsValue}
 use Rattle.ron_spec_words.specs.Scan.{is_closing}
 use Rattle.ron_spec_words.proofs.Gaps.{skip-other}
 use Rattle.ron_spec_words.proofs.Exactly.{three, comma_follows}
-use Rattle.ron_format_words.specs.Alike.{nowhere, is_mark, Before, a_parenthesis, a_mark, an_end, mark_before, may_replace, Gapped, Step, plain, added, dropped, Alike, ended, mark, word}
+use Rattle.ron_format_words.specs.Alike.{nowhere, is_mark, Before, a_parenthesis, a_mark, an_end, mark_before, may_replace, Gapped, Step, plain, added, dropped}
+use Rattle.ron_format_words.specs.Alike.{Alike, ended, mark, word}
 use Rattle.ron_format_words.specs.Moves.{Moved, Moves}
 use Rattle.ron_format_words.proofs.Steps.{after_mark, mark_no_gap}
 use Rattle.ron_format_words.proofs.Closed.{closed_step, no_comma, same_rest, joined, again, moves_or, moves_empty, moves_mark}
 
 -- a gap that came or went before a closing bracket
-loose : {m : Text → Bool} {next v : Text} (gap instead rest other : Text) → next ≡ gap ++ rest → v ≡ instead ++ other → LongGap gap rest → LongGap instead other → Step m a_mark next v rest other
+loose : {m : Text → Bool} {next v : Text} (gap instead rest other : Text) → next ≡ gap ++ rest → v ≡ instead ++ other → LongGap gap rest → LongGap instead other
+    → Step m a_mark next v rest other
 loose gap instead rest other e f g h = plain (record { gap = gap; instead = instead; split = e; splits = f; is_gap = g; is_other = h; may = refl })
 
 pub empty_gap : (g s : Text) (c : ℕ) (u : Text) → c ∷ u ≡ g ++ s → LongGap g s → is_mark c ≡ true → (g ≡ []) × (c ∷ u ≡ s)
@@ -32,7 +34,8 @@ ended_is (c ∷ g) e = absurd (cc)
 inside_empty : {next left rest other : Text} (u : Text) → next ≡ 41 ∷ u → Gapped a_parenthesis next left rest other → (rest ≡ next) × (left ≡ other)
 inside_empty {next} {left} {rest} {other} u e x =
     let k = empty_gap x.gap rest 41 u (sym e ∙ x.split) x.is_gap refl in
-    let m : may_replace a_parenthesis [] x.instead (41 ∷ u) ≡ true = subst (λ y. may_replace a_parenthesis [] x.instead y ≡ true) (sym k.1) (subst (λ g. may_replace a_parenthesis g x.instead rest ≡ true) k.0 x.may) in
+    let m : may_replace a_parenthesis [] x.instead (41 ∷ u) ≡ true =
+    subst (λ y. may_replace a_parenthesis [] x.instead y ≡ true) (sym k.1) (subst (λ g. may_replace a_parenthesis g x.instead rest ≡ true) k.0 x.may) in
     (sym k.1 ∙ sym e, x.splits ∙ ap (λ g. g ++ other) (ended_is x.instead m))
 
 at_close : (u : Text) → begins_with (41 ∷ []) u ≡ true → (w : Text) × (u ≡ 41 ∷ w)
@@ -51,10 +54,14 @@ module _ {commas : Text → Bool} where
   pub moves_nothing : {m : Text → Bool} {A : Type 0} {M : Lang A} {F : Text → Type 0} → Moves commas m Nothing M F
   moves_nothing = record { over = λ t next a z f n v r. absurd z }
 
-  pub moves_means : {m : Text → Bool} {A B : Type 0} {L M : Lang A} {F : Text → Type 0} {f : A → Option B} → Moves commas m L M F → Moves commas m (Means L f) (Means M f) F
-  moves_means h = record { over = λ t next b z g n v r. again (λ u w y. record { value = z.value; spelled = y; meant = z.meant }) (h.over t next z.value z.spelled g n v r) }
+  pub moves_means : {m : Text → Bool} {A B : Type 0} {L M : Lang A} {F : Text → Type 0} {f : A → Option B} → Moves commas m L M F
+      → Moves commas m (Means L f) (Means M f) F
+  moves_means h = record {
+    over = λ t next b z g n v r. again (λ u w y. record { value = z.value; spelled = y; meant = z.meant }) (h.over t next z.value z.spelled g n v r);
+  }
 
-  pub moves_needs : {m : Text → Bool} {A : Type 0} {L M : Lang A} {F : Text → Type 0} {k room : ℕ} → Moves commas m L M F → Moves commas m (Needs k room L) (Needs k room M) F
+  pub moves_needs : {m : Text → Bool} {A : Type 0} {L M : Lang A} {F : Text → Type 0} {k room : ℕ} → Moves commas m L M F
+      → Moves commas m (Needs k room L) (Needs k room M) F
   moves_needs h = record { over = λ t next a z g n v r. again (λ u w y. (z.0, y)) (h.over t next a z.1 g n v r) }
 
   pub moves_opt_comma : {m : Text → Bool} {A : Type 0} {F : Text → Type 0} (a : A) → Moves commas m (OptComma a) (OptComma a) F
@@ -65,9 +72,11 @@ module _ {commas : Text → Bool} where
         → Before' 41 next → v ≡ stretch ++ left → M stretch left a → Step commas before (gap ++ (right ++ next)) left rest other → Alike commas rest other
         → Moved commas nowhere (WithComma M) next v b
     behind_content a b gap right next v stretch left rest other before g z f split spelled (plain y) r =
-        joined {P = M} {Q = λ a _. OptComma a} (λ a _. OptComma a) (Before' 41) gap right stretch left rest other g z f split spelled y r (λ _ _. moves_opt_comma a)
+        joined {P = M} {Q = λ a _. OptComma a} (λ a _. OptComma a) (Before' 41) gap right stretch left rest other g z f split spelled y r
+        (λ _ _. moves_opt_comma a)
     behind_content a b gap right next v stretch left rest other before g (inl z) f split spelled (added c i e y w) r =
-        absurd (let same : right ++ next ≡ rest = same_rest gap y.gap (right ++ next) rest y.split g y.is_gap in let k : begins is_closing (right ++ next) ≡ true = rw same e in let l : false ≡ true = rw z.0 at k in cc)
+        absurd (let same : right ++ next ≡ rest = same_rest gap y.gap (right ++ next) rest y.split g y.is_gap in
+        let k : begins is_closing (right ++ next) ≡ true = rw same e in let l : false ≡ true = rw z.0 at k in cc)
     behind_content a b gap right next v stretch left rest other before g (inr z) f split spelled (added c i e y w) r =
         let same : right ++ next ≡ rest = same_rest gap y.gap (right ++ next) rest y.split g y.is_gap in
         let here : next ≡ rest = ap (λ x. x ++ next) (sym z.0) ∙ same in
@@ -75,7 +84,16 @@ module _ {commas : Text → Bool} where
           stretch = stretch ++ (w.gap ++ (44 ∷ []));
           left = w.second ++ other;
           split = split ∙ ap (λ u. stretch ++ u) w.split ∙ sym (three stretch w.gap (44 ∷ []) (w.second ++ other));
-          spelled = record { value = a; left = stretch; gap = w.gap; right = 44 ∷ []; split = refl; first = subst (λ u. M stretch u a) w.split spelled; is_gap = w.is_gap; second = inl (refl, z.1) };
+          spelled = record {
+            value = a;
+            left = stretch;
+            gap = w.gap;
+            right = 44 ∷ [];
+            split = refl;
+            first = subst (λ u. M stretch u a) w.split spelled;
+            is_gap = w.is_gap;
+            second = inl (refl, z.1);
+          };
           before = a_mark;
           rest = rest;
           other = other;
@@ -90,7 +108,16 @@ module _ {commas : Text → Bool} where
           stretch = stretch ++ (w.gap ++ []);
           left = other;
           split = split ∙ ap (λ u. stretch ++ u) w.split ∙ sym (three stretch w.gap [] other);
-          spelled = record { value = a; left = stretch; gap = w.gap; right = []; split = refl; first = subst (λ u. M stretch u a) w.split spelled; is_gap = w.is_gap; second = inr (refl, z.1) };
+          spelled = record {
+            value = a;
+            left = stretch;
+            gap = w.gap;
+            right = [];
+            split = refl;
+            first = subst (λ u. M stretch u a) w.split spelled;
+            is_gap = w.is_gap;
+            second = inr (refl, z.1);
+          };
           before = a_mark;
           rest = rest;
           other = other;
@@ -100,14 +127,17 @@ module _ {commas : Text → Bool} where
     behind_content a b gap right next v stretch left rest other before g (inr z) f split spelled (dropped c i e y w) r =
         let same : right ++ next ≡ 44 ∷ (y.second ++ rest) = same_rest gap y.gap (right ++ next) (44 ∷ (y.second ++ rest)) y.split g y.is_gap in
         let k : next ≡ 44 ∷ (y.second ++ rest) = ap (λ x. x ++ next) (sym z.0) ∙ same in
-        absurd (let l : is_at 41 (44 ∷ (y.second ++ rest)) ≡ true = subst (λ x. is_at 41 x ≡ true) (ap skip k ∙ skip-other 44 (y.second ++ rest) refl refl) f in cc)
+        absurd
+        (let l : is_at 41 (44 ∷ (y.second ++ rest)) ≡ true = subst (λ x. is_at 41 x ≡ true) (ap skip k ∙ skip-other 44 (y.second ++ rest) refl refl) f in cc)
 
     pub moves_with_comma : Moves commas nowhere (WithComma L) (WithComma M) (Before' 41)
     moves_with_comma = record { over = over }
       where
-        over : (t next : Text) (b : A) → WithComma L t next b → Before' 41 next → skip (t ++ next) ≡ t ++ next → (v : Text) → Alike commas (t ++ next) v → Moved commas nowhere (WithComma M) next v b
+        over : (t next : Text) (b : A) → WithComma L t next b → Before' 41 next → skip (t ++ next) ≡ t ++ next → (v : Text) → Alike commas (t ++ next) v
+            → Moved commas nowhere (WithComma M) next v b
         over t next b z f n v r =
-            let n' : skip (z.left ++ (z.gap ++ (z.right ++ next))) ≡ z.left ++ (z.gap ++ (z.right ++ next)) = rw (z.split, three z.left z.gap z.right next) at n in
+            let n' : skip (z.left ++ (z.gap ++ (z.right ++ next))) ≡ z.left ++ (z.gap ++ (z.right ++ next)) =
+            rw (z.split, three z.left z.gap z.right next) at n in
             let r' : Alike commas (z.left ++ (z.gap ++ (z.right ++ next))) v = rw (z.split, three z.left z.gap z.right next) at r in
             let x = h.over z.left (z.gap ++ (z.right ++ next)) z.value z.first (comma_follows z.value z.gap z.right next b z.is_gap z.second f) n' v r' in
             behind_content z.value b z.gap z.right next v x.stretch x.left x.rest x.other x.before z.is_gap z.second f x.split x.spelled x.step x.alike
@@ -117,7 +147,8 @@ module _ {commas : Text → Bool} where
   pub moves_brackets : {A : Type 0} {F : Text → Type 0} (a : A) → Moves commas commas (Behind 40 (Mark 41 a)) (Behind 40 (Mark 41 a)) F
   moves_brackets {A} {F} a = record { over = over }
     where
-      over : (t next : Text) (b : A) → Behind 40 (Mark 41 a) t next b → F next → skip (t ++ next) ≡ t ++ next → (v : Text) → Alike commas (t ++ next) v → Moved commas commas (Behind 40 (Mark 41 a)) next v b
+      over : (t next : Text) (b : A) → Behind 40 (Mark 41 a) t next b → F next → skip (t ++ next) ≡ t ++ next → (v : Text) → Alike commas (t ++ next) v
+          → Moved commas commas (Behind 40 (Mark 41 a)) next v b
       over t next b z f n v r =
           let whole : t ≡ 40 ∷ 41 ∷ [] = z.split ∙ ap (λ w. 40 ∷ w) z.spelled.0 in
           let r' : Alike commas (40 ∷ 41 ∷ next) v = rw whole at r in
@@ -145,7 +176,8 @@ module _ {commas : Text → Bool} where
   -- what stands in place of another text begins with `()` only where that does
   pub unit_back : (s v : Text) → Alike commas s v → begins_with (codes "()") v ≡ true → begins_with (codes "()") s ≡ true
   unit_back _ _ ended e = e
-  unit_back _ _ (word c t s u rest other h k f g r) e = absurd (let y = and_parts (c == 40) _ e in let same : c ≡ 40 = eqb-true c 40 y.0 in let l : false ≡ true = rw same at h in cc)
+  unit_back _ _ (word c t s u rest other h k f g r) e =
+      absurd (let y = and_parts (c == 40) _ e in let same : c ≡ 40 = eqb-true c 40 y.0 in let l : false ≡ true = rw same at h in cc)
   unit_back _ _ (mark c s u rest other m g r) e = go (and_parts (c == 40) _ e) g
     where
       go : ((c == 40) ≡ true) × (begins_with (41 ∷ []) u ≡ true) → Step commas (mark_before c) s u rest other → ((c == 40) && begins_with (41 ∷ []) s) ≡ true
@@ -159,14 +191,26 @@ module _ {commas : Text → Bool} where
           let here : s ≡ rest = x.split ∙ ap (λ g. g ++ rest) none in
           rw (y.0, here) (at_mark rest there)
 
-  pub moves_when_round : {m : Text → Bool} {A : Type 0} {L M : Lang A} {F : Text → Type 0} → Moves commas m L M F → Moves commas m (When (λ s. not (begins_with (codes "()") s)) L) (When (λ s. not (begins_with (codes "()") s)) M) F
+  pub moves_when_round : {m : Text → Bool} {A : Type 0} {L M : Lang A} {F : Text → Type 0} → Moves commas m L M F
+      → Moves commas m (When (λ s. not (begins_with (codes "()") s)) L) (When (λ s. not (begins_with (codes "()") s)) M) F
   moves_when_round h = record {
     over = λ t next a z f n v r.
         let x = h.over t next a z.1 f n v r in
-        record { stretch = x.stretch; left = x.left; split = x.split; spelled = (still_not t next v r z.0 x.stretch x.left x.split, x.spelled); before = x.before; rest = x.rest; other = x.other; step = x.step; alike = x.alike };
+        record {
+          stretch = x.stretch;
+          left = x.left;
+          split = x.split;
+          spelled = (still_not t next v r z.0 x.stretch x.left x.split, x.spelled);
+          before = x.before;
+          rest = x.rest;
+          other = x.other;
+          step = x.step;
+          alike = x.alike;
+        };
   }
     where
-      still_not : (t next v : Text) → Alike commas (t ++ next) v → not (begins_with (codes "()") (t ++ next)) ≡ true → (w l : Text) → v ≡ w ++ l → not (begins_with (codes "()") (w ++ l)) ≡ true
+      still_not : (t next v : Text) → Alike commas (t ++ next) v → not (begins_with (codes "()") (t ++ next)) ≡ true → (w l : Text) → v ≡ w ++ l
+          → not (begins_with (codes "()") (w ++ l)) ≡ true
       still_not t next v r e w l k = go (begins_with (codes "()") (w ++ l)) refl
         where
           go : (b : Bool) → begins_with (codes "()") (w ++ l) ≡ b → not b ≡ true

@@ -1,5 +1,6 @@
 -- What is laid out keeps its words and its comments, whatever the layout wishes.
-use Rattle.std.proofs.Common.{◌≡◌, ℕ, zero, suc, ◌-◌, ◌≤◌, Bool, true, false, if◌then◌else◌, cond, length, length-append, take, drop, [], ◌∷◌, ◌++◌, Some, None, Option, option_map, option_and_then}
+use Rattle.std.proofs.Common.{◌≡◌, ℕ, zero, suc, ◌-◌, ◌≤◌, Bool, true, false, if◌then◌else◌, cond, length, length-append, take, drop, [], ◌∷◌, ◌++◌, Some, None}
+use Rattle.std.proofs.Common.{Option, option_map, option_and_then}
 use Rattle.std.proofs.Common.{refl, sym, ap, subst, ◌∙◌, append_assoc, eqb-true, arith}
 use Rattle.std.proofs.lemmas.Bool.{and_parts}
 use Rattle.ron_spec_words.specs.Characters.{Text}
@@ -38,7 +39,8 @@ edge_cut b s = go (is_separated b s) refl
           is_edge = with_comma (gap_of s) (gap_of x) (skip x) gap inner.is_gap;
         }
 
-    go : (x : Bool) → is_separated b s ≡ x → CutsAtEdge s (if x then gap_of s ++ 44 ∷ gap_of (drop 1 (skip s)) else gap_of s) (if x then skip (drop 1 (skip s)) else skip s)
+    go : (x : Bool) → is_separated b s ≡ x
+        → CutsAtEdge s (if x then gap_of s ++ 44 ∷ gap_of (drop 1 (skip s)) else gap_of s) (if x then skip (drop 1 (skip s)) else skip s)
     go true e = whole (skip s) refl (and_parts (ends_item b) (is_at 44 (skip s)) e).1
     go false e = record { split = (cut s).split; is_edge = gap_alone (gap_of s) (skip s) (cut s).is_gap }
 
@@ -66,7 +68,8 @@ record LaidOn (wish : Wish) (n : ℕ) (p : Place) (c : ℕ) (s u : Text) : Type 
   split : s ≡ more ++ next
   no_gap : starts_gap c ≡ false
   is_token : token (c ∷ (more ++ next)) ≡ Some next
-  is_laid : laid_from wish zero (suc n) (place_past_edge (place_behind p c) (edge_of (before_edge (c ∷ s)) next)) (past_edge (before_edge (c ∷ s)) next) ≡ Some laid
+  is_laid : laid_from wish zero (suc n) (place_past_edge (place_behind p c) (edge_of (before_edge (c ∷ s)) next)) (past_edge (before_edge (c ∷ s)) next)
+      ≡ Some laid
   is_whole : u ≡ c ∷ (more ++ (granted_at (place_behind p c) (before_edge (c ∷ s)) (wish n) next ++ laid))
 
 laid_on : (wish : Wish) (n : ℕ) (p : Place) (c : ℕ) (s u : Text) → laid_from wish zero n p (c ∷ s) ≡ Some u → LaidOn wish n p c s u
@@ -83,9 +86,11 @@ laid_on wish n p c s u e = go (starts_gap c) refl e
     given next = granted_at (place_behind p c) b (wish n) next
 
     step : Text → Option Text
-    step next = option_map (λ v. take (length (c ∷ s) - length next) (c ∷ s) ++ (given next ++ v)) (laid_from wish (length s - length (past_edge b next)) (suc n) (q next) s)
+    step next = option_map (λ v. take (length (c ∷ s) - length next) (c ∷ s) ++ (given next ++ v))
+        (laid_from wish (length s - length (past_edge b next)) (suc n) (q next) s)
 
-    at_token : starts_gap c ≡ false → (next y t : Text) → token (c ∷ s) ≡ Some next → laid_from wish (length s - length (past_edge b next)) (suc n) (q next) s ≡ Some y → u ≡ take (length (c ∷ s) - length next) (c ∷ s) ++ (given next ++ y)
+    at_token : starts_gap c ≡ false → (next y t : Text) → token (c ∷ s) ≡ Some next → laid_from wish (length s - length (past_edge b next)) (suc n) (q next) s
+        ≡ Some y → u ≡ take (length (c ∷ s) - length next) (c ∷ s) ++ (given next ++ y)
         → s ≡ t ++ next → LaidOn wish n p c s u
     at_token k next y t is_token l m split =
         let edge : Text = edge_of b next in
@@ -93,7 +98,8 @@ laid_on wish n p c s u e = go (starts_gap c) refl e
         let there : s ≡ (t ++ edge) ++ rest = split ∙ ap (λ z. t ++ z) (edge_cut b next).split ∙ sym (append_assoc t edge rest) in
         let passed : length s - length rest ≡ length (t ++ edge) = omega (arith, ap length there, length-append (t ++ edge) rest) in
         let counted : laid_from wish (length (t ++ edge)) (suc n) (q next) ((t ++ edge) ++ rest) ≡ Some y =
-        subst (λ z. laid_from wish (length (t ++ edge)) (suc n) (q next) z ≡ Some y) there (subst (λ z. laid_from wish z (suc n) (q next) s ≡ Some y) passed l) in
+        subst (λ z. laid_from wish (length (t ++ edge)) (suc n) (q next) z ≡ Some y) there
+        (subst (λ z. laid_from wish z (suc n) (q next) s ≡ Some y) passed l) in
         record {
           more = t;
           next = next;
@@ -102,10 +108,12 @@ laid_on wish n p c s u e = go (starts_gap c) refl e
           no_gap = k;
           is_token = subst (λ z. token (c ∷ z) ≡ Some next) split is_token;
           is_laid = sym (laid-counted wish (suc n) (q next) (t ++ edge) rest) ∙ counted;
-          is_whole = m ∙ ap (λ z. take (length (c ∷ z) - length next) (c ∷ z) ++ (given next ++ y)) split ∙ ap (λ z. z ++ (given next ++ y)) (take-front (c ∷ t) next);
+          is_whole =
+              m ∙ ap (λ z. take (length (c ∷ z) - length next) (c ∷ z) ++ (given next ++ y)) split ∙ ap (λ z. z ++ (given next ++ y)) (take-front (c ∷ t) next);
         }
 
-    found : starts_gap c ≡ false → (next y : Text) → token (c ∷ s) ≡ Some next → laid_from wish (length s - length (past_edge b next)) (suc n) (q next) s ≡ Some y → u ≡ take (length (c ∷ s) - length next) (c ∷ s) ++ (given next ++ y)
+    found : starts_gap c ≡ false → (next y : Text) → token (c ∷ s) ≡ Some next → laid_from wish (length s - length (past_edge b next)) (suc n) (q next) s
+        ≡ Some y → u ≡ take (length (c ∷ s) - length next) (c ∷ s) ++ (given next ++ y)
         → (d : ℕ) × (t : Text) × (c ∷ s ≡ d ∷ (t ++ next)) → LaidOn wish n p c s u
     found k next y is_token l m (d, t, f) = at_token k next y t is_token l m (cc)
 
@@ -113,17 +121,20 @@ laid_on wish n p c s u e = go (starts_gap c) refl e
     go true k r = absurd (cc)
     go false k r =
         let x = then_is step (token (c ∷ s)) u r in
-        let y = mapped_is (λ v. take (length (c ∷ s) - length x.0) (c ∷ s) ++ (given x.0 ++ v)) (laid_from wish (length s - length (past_edge b x.0)) (suc n) (q x.0) s) u x.2 in
+        let y = mapped_is (λ v. take (length (c ∷ s) - length x.0) (c ∷ s) ++ (given x.0 ++ v))
+        (laid_from wish (length s - length (past_edge b x.0)) (suc n) (q x.0) s) u x.2 in
         found k x.0 y.0 x.1 y.1 y.2 (token_front (c ∷ s) x.0 x.1)
 
 -- what is granted for the edge with which the text begins keeps it
-kept_at : (p : Place) (b : Before) (wish s other : Text) → KeptFromWord (place_past_edge p (edge_of b s)) (past_edge b s) other → KeptFromEdge p b s (granted_at p b wish s ++ other)
+kept_at : (p : Place) (b : Before) (wish s other : Text) → KeptFromWord (place_past_edge p (edge_of b s)) (past_edge b s) other
+    → KeptFromEdge p b s (granted_at p b wish s ++ other)
 unfolding granted_at
 kept_at p b wish s other r =
     let x = edge_cut b s in
     let k : Bool = commas_in p (past_edge b s) in
     let given : Text = granted k b (edge_of b s) wish (past_edge b s) in
-    subst (λ z. KeptFromEdge p b z (given ++ other)) (sym x.split) (kept_edge k p b (edge_of b s) given (past_edge b s) other x.is_edge (is_granted k b (edge_of b s) wish (past_edge b s)) (λ e. e) r)
+    subst (λ z. KeptFromEdge p b z (given ++ other)) (sym x.split)
+    (kept_edge k p b (edge_of b s) given (past_edge b s) other x.is_edge (is_granted k b (edge_of b s) wish (past_edge b s)) (λ e. e) r)
 
 -- a text of at most m characters
 kept_within : (m : ℕ) (wish : Wish) (n : ℕ) (p : Place) (s u : Text) → length s ≤ m → laid_from wish zero n p s ≡ Some u → KeptFromWord p s u
@@ -134,7 +145,8 @@ kept_within (suc m) wish n p (c ∷ s) u l e =
     let x = laid_on wish n p c s u e in
     let b : Before = before_edge (c ∷ s) in
     let shorter : length (past_edge b x.next) ≤ m =
-    omega (arith, l, ap length x.split, length-append x.more x.next, ap length (edge_cut b x.next).split, length-append (edge_of b x.next) (past_edge b x.next)) in
+    omega
+    (arith, l, ap length x.split, length-append x.more x.next, ap length (edge_cut b x.next).split, length-append (edge_of b x.next) (past_edge b x.next)) in
     let r = kept_within m wish (suc n) (place_past_edge (place_behind p c) (edge_of b x.next)) (past_edge b x.next) x.laid shorter x.is_laid in
     let given : Text = granted_at (place_behind p c) b (wish n) x.next in
     let kept = kept_token p c x.more x.next (given ++ x.laid) x.no_gap x.is_token (kept_at (place_behind p c) b (wish n) x.next x.laid r) in

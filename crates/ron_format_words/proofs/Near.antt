@@ -1,5 +1,6 @@
 -- Words in texts of the same words: names, literals, and numbers and ranges, which are several tokens directly beside one another.
-use Rattle.std.proofs.Common.{◌≡◌, ℕ, Bool, true, false, not, ◌||◌, ◌&&◌, ◌==◌, if◌then◌else◌, [], ◌∷◌, ◌++◌, Some, Option, inl, inr, refl, sym, ap, subst, ◌∙◌, drop, length, append_assoc, eqb-true}
+use Rattle.std.proofs.Common.{◌≡◌, ℕ, Bool, true, false, not, ◌||◌, ◌&&◌, ◌==◌, if◌then◌else◌, [], ◌∷◌, ◌++◌, Some, Option, inl, inr, refl, sym, ap, subst, ◌∙◌}
+use Rattle.std.proofs.Common.{drop, length, append_assoc, eqb-true}
 use Rattle.std.proofs.lemmas.List.{append_cancel_right}
 use Rattle.ron_spec_words.specs.Characters.{Text, continues_name}
 use Rattle.ron_spec_words.specs.Runs.{begins, begins_with, run_of}
@@ -24,7 +25,8 @@ no_lead s e h = let k : begins is_solid s ≡ false = (sees_begins is_solid (λ 
 module _ {commas : Text → Bool} where
   -- ---- one token
 
-  pub word_token : {A : Type 0} {L : Lang A} {F : Text → Type 0} → First Opening L → ((t next : Text) (a : A) → L t next a → F next → token (t ++ next) ≡ Some next) → Stable L → MovesWord commas L F
+  pub word_token : {A : Type 0} {L : Lang A} {F : Text → Type 0} → First Opening L
+      → ((t next : Text) (a : A) → L t next a → F next → token (t ++ next) ≡ Some next) → Stable L → MovesWord commas L F
   word_token {L = L} o k s = record {
     over = λ t next a z f v r.
         let x = after_word (t ++ next) next v (o.holds t next a z) (k t next a z f) r in
@@ -56,11 +58,23 @@ module _ {commas : Text → Bool} where
     };
   }
 
-  other_word : {A B : Type 0} {M : Lang A} {N : Lang B} {next v : Text} {a : A} {b : B} → ((t u : Text) → M t u a → N t u b) → MovedWord commas M next v a → MovedWord commas N next v b
-  other_word k x = record { stretch = x.stretch; left = x.left; split = x.split; spelled = k x.stretch x.left x.spelled; rest = x.rest; other = x.other; step = x.step; alike = x.alike }
+  other_word : {A B : Type 0} {M : Lang A} {N : Lang B} {next v : Text} {a : A} {b : B} → ((t u : Text) → M t u a → N t u b) → MovedWord commas M next v a
+      → MovedWord commas N next v b
+  other_word k x = record {
+    stretch = x.stretch;
+    left = x.left;
+    split = x.split;
+    spelled = k x.stretch x.left x.spelled;
+    rest = x.rest;
+    other = x.other;
+    step = x.step;
+    alike = x.alike;
+  }
 
   pub word_means : {A B : Type 0} {L : Lang A} {F : Text → Type 0} {f : A → Option B} → MovesWord commas L F → MovesWord commas (Means L f) F
-  word_means h = record { over = λ t next b z f v r. other_word (λ u w y. record { value = z.value; spelled = y; meant = z.meant }) (h.over t next z.value z.spelled f v r) }
+  word_means h = record {
+    over = λ t next b z f v r. other_word (λ u w y. record { value = z.value; spelled = y; meant = z.meant }) (h.over t next z.value z.spelled f v r);
+  }
 
   pub word_or : {A : Type 0} {L M : Lang A} {F : Text → Type 0} → MovesWord commas L F → MovesWord commas M F → MovesWord commas (Or L M) F
   word_or {A} {L} {M} {F} h k = record { over = both }
@@ -74,7 +88,16 @@ module _ {commas : Text → Bool} where
     over = λ t next a z f v r.
         let x = h.over t next a z.1 f v r in
         let e : p (x.stretch ++ x.left) ≡ true = ap p (sym x.split) ∙ sym (seen_same s {s = t ++ next} {u = v} (alike_front r)) ∙ z.0 in
-        record { stretch = x.stretch; left = x.left; split = x.split; spelled = (e, x.spelled); rest = x.rest; other = x.other; step = x.step; alike = x.alike };
+        record {
+          stretch = x.stretch;
+          left = x.left;
+          split = x.split;
+          spelled = (e, x.spelled);
+          rest = x.rest;
+          other = x.other;
+          step = x.step;
+          alike = x.alike;
+        };
   }
 
   pub word_before : {A : Type 0} {L : Lang A} (F G : Text → Type 0) → ((next : Text) → G next → F next) → MovesWord commas L F → MovesWord commas L G
@@ -126,12 +149,14 @@ module _ {commas : Text → Bool} where
   pub near_or : {A : Type 0} {L M : Lang A} {F : Text → Type 0} → MovesNear commas L F → MovesNear commas M F → MovesNear commas (Or L M) F
   near_or {A} {L} {M} {F} h k = record { over = both }
     where
-      both : (t next : Text) (a : A) → Or L M t next a → F next → (left rest other : Text) → Step commas a_word (t ++ next) left rest other → Alike commas rest other → MovedWord commas (Or L M) next left a
+      both : (t next : Text) (a : A) → Or L M t next a → F next → (left rest other : Text) → Step commas a_word (t ++ next) left rest other
+          → Alike commas rest other → MovedWord commas (Or L M) next left a
       both t next a (inl z) f left rest other s r = other_word (λ u w y. inl y) (h.over t next a z f left rest other s r)
       both t next a (inr z) f left rest other s r = other_word (λ u w y. inr y) (k.over t next a z f left rest other s r)
 
   -- a character that is a token by itself, and directly behind it the other
-  pub word_behind : {A : Type 0} {L : Lang A} {F : Text → Type 0} (c : ℕ) → is_solid c ≡ true → ((s : Text) → token (c ∷ s) ≡ Some s) → MovesNear commas L F → MovesWord commas (Behind c L) F
+  pub word_behind : {A : Type 0} {L : Lang A} {F : Text → Type 0} (c : ℕ) → is_solid c ≡ true → ((s : Text) → token (c ∷ s) ≡ Some s) → MovesNear commas L F
+      → MovesWord commas (Behind c L) F
   word_behind {A} {L} {F} c e k h = record { over = over }
     where
       over : (t next : Text) (a : A) → Behind c L t next a → F next → (v : Text) → Alike commas (t ++ next) v → MovedWord commas (Behind c L) next v a
@@ -165,7 +190,14 @@ module _ {commas : Text → Bool} where
             stretch = x.stretch ++ y.stretch;
             left = y.left;
             split = x.split ∙ ap (λ w. x.stretch ++ w) y.split ∙ sym (append_assoc x.stretch y.stretch y.left);
-            spelled = record { value = z.value; left = x.stretch; right = y.stretch; split = refl; first = subst (λ w. L x.stretch w z.value) y.split x.spelled; second = y.spelled };
+            spelled = record {
+              value = z.value;
+              left = x.stretch;
+              right = y.stretch;
+              split = refl;
+              first = subst (λ w. L x.stretch w z.value) y.split x.spelled;
+              second = y.spelled;
+            };
             rest = y.rest;
             other = y.other;
             step = y.step;
@@ -200,8 +232,10 @@ sees_behind w q h k = record { at = at w h }
     at (c ∷ w) h [] = refl
     at (c ∷ w) h (d ∷ s) = go (at w h.1 s) (is_solid d) refl (d == c) refl
       where
-        go : (begins_with w s && q (drop (length w) s)) ≡ (begins_with w (front s) && q (drop (length w) (front s))) → (b : Bool) → is_solid d ≡ b → (m : Bool) → (d == c) ≡ m
-            → ((m && begins_with w s) && q (drop (length w) s)) ≡ (begins_with (c ∷ w) (if b then d ∷ front s else []) && q (drop (length (c ∷ w)) (if b then d ∷ front s else [])))
+        go : (begins_with w s && q (drop (length w) s)) ≡ (begins_with w (front s) && q (drop (length w) (front s))) → (b : Bool) → is_solid d ≡ b → (m : Bool)
+            → (d == c) ≡ m
+            → ((m && begins_with w s) && q (drop (length w) s))
+            ≡ (begins_with (c ∷ w) (if b then d ∷ front s else []) && q (drop (length (c ∷ w)) (if b then d ∷ front s else [])))
         go ih true e true l = rw l ih
         go ih true e false l = rw l refl
         go ih false e true l = absurd (let y = eqb-true d c l in let z : is_solid d ≡ true = rw y h.0 in cc)

@@ -80,7 +80,17 @@ after_word _ next v h e ended = absurd (cc)
 after_word _ next v h e (mark c s u rest other m g r) = absurd (let k = or_parts (starts_gap c) (is_mark c) (not-true _ h) in cc)
 after_word {k = m} _ next v h e (word c t s u rest other k e' f g r) =
     let same : s ≡ next = cc in
-    record { stretch = c ∷ t; left = u; rest = rest; other = other; same = ap (λ x. c ∷ (t ++ x)) same; split = refl; token = f; step = subst (λ x. Step m a_word x u rest other) same g; alike = r }
+    record {
+      stretch = c ∷ t;
+      left = u;
+      rest = rest;
+      other = other;
+      same = ap (λ x. c ∷ (t ++ x)) same;
+      split = refl;
+      token = f;
+      step = subst (λ x. Step m a_word x u rest other) same g;
+      alike = r;
+    }
 
 -- ---- what a class of a word's characters sees behind a word
 

@@ -20,7 +20,8 @@ use Rattle.ron_format_words.proofs.Edges.{edge_stands}
 -- ---- what is kept
 
 -- an edge that was granted
-pub kept_edge : (k : Bool) (p : Place) (b : Before) (edge given rest other : Text) → IsEdge edge rest → IsGranted k b edge given rest → (k ≡ true → commas_in p rest ≡ true) → KeptFromWord (place_past_edge p edge) rest other
+pub kept_edge : (k : Bool) (p : Place) (b : Before) (edge given rest other : Text) → IsEdge edge rest → IsGranted k b edge given rest
+    → (k ≡ true → commas_in p rest ≡ true) → KeptFromWord (place_past_edge p edge) rest other
     → KeptFromEdge p b (edge ++ rest) (given ++ other)
 kept_edge k p b edge given rest other h g at_most r =
     let x = edge_stands k p b edge given rest other h g at_most r.words in
@@ -40,14 +41,19 @@ kept_mark p c s u m r = record {
 }
 
 -- a token of a word
-kept_solid : (p : Place) (c : ℕ) (t s u : Text) → is_solid c ≡ true → token (c ∷ (t ++ s)) ≡ Some s → KeptFromEdge (place_behind p c) a_word s u → KeptFromWord p (c ∷ (t ++ s)) (c ∷ (t ++ u))
+kept_solid : (p : Place) (c : ℕ) (t s u : Text) → is_solid c ≡ true → token (c ∷ (t ++ s)) ≡ Some s → KeptFromEdge (place_behind p c) a_word s u
+    → KeptFromWord p (c ∷ (t ++ s)) (c ∷ (t ++ u))
 kept_solid p c t s u h e r =
     let same : front s ≡ front u = front_behind (step_anywhere r.step) (alike_anywhere r.words) in
     let there : token (c ∷ (t ++ u)) ≡ Some u = token_stays c t s u h e same in
-    record { words = word p c t s u r.rest r.other h e there r.step r.words; comments = said-token c t s e ∙ ap (λ y. told (c ∷ t) ++ y) r.comments ∙ sym (said-token c t u there) }
+    record {
+      words = word p c t s u r.rest r.other h e there r.step r.words;
+      comments = said-token c t s e ∙ ap (λ y. told (c ∷ t) ++ y) r.comments ∙ sym (said-token c t u there);
+    }
 
 -- any token that is no gap
-pub kept_token : (p : Place) (c : ℕ) (t s u : Text) → starts_gap c ≡ false → token (c ∷ (t ++ s)) ≡ Some s → KeptFromEdge (place_behind p c) (before_edge (c ∷ (t ++ s))) s u → KeptFromWord p (c ∷ (t ++ s)) (c ∷ (t ++ u))
+pub kept_token : (p : Place) (c : ℕ) (t s u : Text) → starts_gap c ≡ false → token (c ∷ (t ++ s)) ≡ Some s
+    → KeptFromEdge (place_behind p c) (before_edge (c ∷ (t ++ s))) s u → KeptFromWord p (c ∷ (t ++ s)) (c ∷ (t ++ u))
 kept_token p c t s u n e r = go (is_mark c) refl r
   where
     go : (x : Bool) → is_mark c ≡ x → KeptFromEdge (place_behind p c) (if x then mark_before c else a_word) s u → KeptFromWord p (c ∷ (t ++ s)) (c ∷ (t ++ u))
@@ -62,10 +68,14 @@ kept_token p c t s u n e r = go (is_mark c) refl r
 
 -- nothing is written
 pub written_start : (text : Text) → WrittenToEdge in_head a_mark text [] text
-written_start text = record { goes_on = λ v r. record { words = record { rest = r.rest; other = r.other; gapped = no_comma (closed_step refl r.step); alike = r.words }; comments = r.comments } }
+written_start text = record {
+  goes_on =
+      λ v r. record { words = record { rest = r.rest; other = r.other; gapped = no_comma (closed_step refl r.step); alike = r.words }; comments = r.comments };
+}
 
 -- an edge is written, as it was granted
-pub written_edge : {p : Place} {b : Before} {text out s : Text} (k : Bool) (edge given rest : Text) → s ≡ edge ++ rest → IsEdge edge rest → IsGranted k b edge given rest → (k ≡ true → commas_in p rest ≡ true) → WrittenToEdge p b text out s
+pub written_edge : {p : Place} {b : Before} {text out s : Text} (k : Bool) (edge given rest : Text) → s ≡ edge ++ rest → IsEdge edge rest
+    → IsGranted k b edge given rest → (k ≡ true → commas_in p rest ≡ true) → WrittenToEdge p b text out s
     → WrittenToWord (place_past_edge p edge) text (out ++ given) rest
 written_edge {p} {b} {text} {out} {s} k edge given rest split h g at_most w = record {
   goes_on = λ v r.
@@ -74,13 +84,16 @@ written_edge {p} {b} {text} {out} {s} k edge given rest split h g at_most w = re
 }
 
 -- a token that is no gap is written
-pub written_token : {p : Place} {text out s : Text} (t rest : Text) → begins starts_gap s ≡ false → s ≡ t ++ rest → token s ≡ Some rest → WrittenToWord p text out s → WrittenToEdge (place_past p s) (before_edge s) text (out ++ t) rest
-written_token {p} {text} {out} {s} t rest n split e w = record { goes_on = λ v r. subst (λ x. Kept text x) (sym (append_assoc out t v)) (w.goes_on (t ++ v) (go (token_front s rest e) v r)) }
+pub written_token : {p : Place} {text out s : Text} (t rest : Text) → begins starts_gap s ≡ false → s ≡ t ++ rest → token s ≡ Some rest
+    → WrittenToWord p text out s → WrittenToEdge (place_past p s) (before_edge s) text (out ++ t) rest
+written_token {p} {text} {out} {s} t rest n split e w =
+    record { goes_on = λ v r. subst (λ x. Kept text x) (sym (append_assoc out t v)) (w.goes_on (t ++ v) (go (token_front s rest e) v r)) }
   where
     go : (c : ℕ) × (u : Text) × (s ≡ c ∷ (u ++ rest)) → (v : Text) → KeptFromEdge (place_past p s) (before_edge s) rest v → KeptFromWord p s (t ++ v)
     go (c, u, f) v r =
         let same : t ≡ c ∷ u = append_cancel_right t (c ∷ u) rest (sym split ∙ f) in
-        let edge : KeptFromEdge (place_behind p c) (before_edge (c ∷ (u ++ rest))) rest v = subst (λ x. KeptFromEdge (place_past p x) (before_edge x) rest v) f r in
+        let edge : KeptFromEdge (place_behind p c) (before_edge (c ∷ (u ++ rest))) rest v =
+        subst (λ x. KeptFromEdge (place_past p x) (before_edge x) rest v) f r in
         let no_gap : starts_gap c ≡ false = subst (λ x. begins starts_gap x ≡ false) f n in
         let kept = kept_token p c u rest v no_gap (subst (λ x. token x ≡ Some rest) f e) edge in
         subst (λ x. KeptFromWord p x (t ++ v)) (sym f) (subst (λ x. KeptFromWord p (c ∷ (u ++ rest)) (x ++ v)) (sym same) kept)

@@ -34,13 +34,15 @@ ends_item a_word = true
 abbrev pub as_empty : Text → Text → Bool
 as_empty g h = if is_ended g then is_ended h else not (is_ended h)
 
--- Behind this, before the rest, the second gap may stand in place of the first. Beside a mark any gap may, but for two places: `()` is the unit and `( )` is none, and a name stands directly before the `(` of a tuple struct.
+-- Behind this, before the rest, the second gap may stand in place of the first. Beside a mark any gap may, but for two places: `()` is the unit and `( )` is
+-- none, and a name stands directly before the `(` of a tuple struct.
 -- Between two words a gap stays one, and no gap none.
 abbrev pub may_replace : Before → Text → Text → Text → Bool
 may_replace a_parenthesis g h rest = if is_at right_parenthesis rest then as_empty g h else true
 may_replace a_mark g h rest = true
 may_replace an_end g h rest = true
-may_replace a_word g h rest = if is_at left_parenthesis rest then not (is_ended g) || is_ended h else if is_ended rest || begins is_mark rest then true else as_empty g h
+may_replace a_word g h rest =
+    if is_at left_parenthesis rest then not (is_ended g) || is_ended h else if is_ended rest || begins is_mark rest then true else as_empty g h
 
 -- a gap and the rest, and the gap that stands in its place before the other rest
 pub record Gapped (b : Before) (s u rest other : Text) : Type 0 where
@@ -72,7 +74,8 @@ anywhere rest = true
 abbrev pub nowhere : Text → Bool
 nowhere rest = false
 
--- From a word or a mark to the next: the gaps may stand in each other's place; and where commas may come and go, a last comma does before a closing bracket, behind an item.
+-- From a word or a mark to the next: the gaps may stand in each other's place; and where commas may come and go, a last comma does before a closing bracket,
+-- behind an item.
 pub data Step (commas : Text → Bool) (b : Before) (s u rest other : Text) : Type 0 where
   plain : Gapped b s u rest other → Step commas b s u rest other
   added : commas rest ≡ true → ends_item b ≡ true → begins is_closing rest ≡ true → OnlyGap s rest → WithLast u other → Step commas b s u rest other
@@ -81,8 +84,10 @@ pub data Step (commas : Text → Bool) (b : Before) (s u rest other : Text) : Ty
 -- The two texts, where no gap begins, are made of the same tokens, but for last commas.
 pub data Alike (commas : Text → Bool) : Text → Text → Type 0 where
   ended : Alike commas [] []
-  mark : (c : ℕ) (s u rest other : Text) → is_mark c ≡ true → Step commas (mark_before c) s u rest other → Alike commas rest other → Alike commas (c ∷ s) (c ∷ u)
-  word : (c : ℕ) (t s u rest other : Text) → is_solid c ≡ true → token (c ∷ (t ++ s)) ≡ Some s → token (c ∷ (t ++ u)) ≡ Some u → Step commas a_word s u rest other → Alike commas rest other → Alike commas (c ∷ (t ++ s)) (c ∷ (t ++ u))
+  mark : (c : ℕ) (s u rest other : Text) → is_mark c ≡ true → Step commas (mark_before c) s u rest other → Alike commas rest other
+      → Alike commas (c ∷ s) (c ∷ u)
+  word : (c : ℕ) (t s u rest other : Text) → is_solid c ≡ true → token (c ∷ (t ++ s)) ≡ Some s → token (c ∷ (t ++ u)) ≡ Some u
+      → Step commas a_word s u rest other → Alike commas rest other → Alike commas (c ∷ (t ++ s)) (c ∷ (t ++ u))
 
 -- whole texts, with a gap before them
 pub record SameWords (commas : Text → Bool) (s u : Text) : Type 0 where

@@ -18,7 +18,8 @@ comment_before rest s = without_last_blanks (take (length s - length rest) s)
 unfoldable pub comments_from : ℕ → Text → List Text
 comments_from k [] = []
 comments_from (suc k) (c ∷ s) = comments_from k s
-comments_from zero (c ∷ s) = unwrap_or (option_map (λ rest. comment_before rest (c ∷ s) ∷ comments_from (length s - length rest) s) (after_comment (c ∷ s))) (comments_from zero s)
+comments_from zero (c ∷ s) =
+    unwrap_or (option_map (λ rest. comment_before rest (c ∷ s) ∷ comments_from (length s - length rest) s) (after_comment (c ∷ s))) (comments_from zero s)
 
 -- the comments of a gap, or of a gap, a comma and a gap, in their order
 unfoldable pub comments_of : Text → List Text
@@ -33,8 +34,10 @@ told (c ∷ t) = if starts_gap c then comments_of (c ∷ t) else if c == comma t
 unfoldable pub said_from : ℕ → Text → List Text
 said_from k [] = []
 said_from (suc k) (c ∷ s) = said_from k s
-said_from zero (c ∷ s) = unwrap_or (option_map (λ rest. told (take (length (c ∷ s) - length rest) (c ∷ s)) ++ said_from (length s - length rest) s) (token (c ∷ s))) []
+said_from zero (c ∷ s) =
+    unwrap_or (option_map (λ rest. told (take (length (c ∷ s) - length rest) (c ∷ s)) ++ said_from (length s - length rest) s) (token (c ∷ s))) []
 
--- What a text says: its words, marks and comments in their order, but for commas. So each comment stands between the same words. Behind a broken token nothing is said.
+-- What a text says: its words, marks and comments in their order, but for commas. So each comment stands between the same words. Behind a broken token nothing
+-- is said.
 unfoldable pub said : Text → List Text
 said s = said_from zero s

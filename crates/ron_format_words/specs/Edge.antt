@@ -35,7 +35,8 @@ may_stand commas b edge wish rest =
     if holds_comma edge then (if holds_comma wish then true else takes_last_comma commas b rest) else
     if holds_comma wish then takes_last_comma commas b rest else may_replace b edge wish rest
 
--- The wish may stand in the edge's place, behind what stands before it and before the rest: it is an edge, holds the same comments in the same order, and changes no word. With `commas`, last commas may come and go.
+-- The wish may stand in the edge's place, behind what stands before it and before the rest: it is an edge, holds the same comments in the same order, and
+-- changes no word. With `commas`, last commas may come and go.
 unfoldable pub permitted : Bool → Before → Text → Text → Text → Bool
 permitted commas b edge wish rest = is_closed_edge wish && (pointwise same_text (comments_of edge) (comments_of wish) && may_stand commas b edge wish rest)
 

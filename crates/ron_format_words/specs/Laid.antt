@@ -1,5 +1,6 @@
 -- A text laid out anew: for each edge a layout says what it wishes in its place, and where that is permitted it stands.
-use Rattle.std.specs.Prelude.{◌≡◌, ℕ, zero, suc, ◌-◌, Bool, ◌&&◌, if◌then◌else◌, length, take, drop, [], ◌∷◌, ◌++◌, Option, Some, None, option_map, option_and_then}
+use Rattle.std.specs.Prelude.{◌≡◌, ℕ, zero, suc, ◌-◌, Bool, ◌&&◌, if◌then◌else◌, length, take, drop, [], ◌∷◌, ◌++◌, Option, Some, None, option_map}
+use Rattle.std.specs.Prelude.{option_and_then}
 use Rattle.ron_spec_words.specs.Characters.{Text, comma}
 use Rattle.ron_spec_words.specs.Runs.{is_at}
 use Rattle.ron_spec_words.specs.Gap.{skip, gap_of}
@@ -39,7 +40,8 @@ laid_from wish zero n p (c ∷ s) =
     (λ next.
     option_map
     (λ u. take (length (c ∷ s) - length next) (c ∷ s) ++ (granted_at (place_past p (c ∷ s)) (before_edge (c ∷ s)) (wish n) next ++ u))
-    (laid_from wish (length s - length (past_edge (before_edge (c ∷ s)) next)) (suc n) (place_past_edge (place_past p (c ∷ s)) (edge_of (before_edge (c ∷ s)) next)) s))
+    (laid_from wish (length s - length (past_edge (before_edge (c ∷ s)) next)) (suc n)
+    (place_past_edge (place_past p (c ∷ s)) (edge_of (before_edge (c ∷ s)) next)) s))
     (token (c ∷ s))
 
 -- the whole text

@@ -19,4 +19,5 @@ pub record Moved {A : Type 0} (commas behind : Text → Bool) (M : Lang A) (next
 
 -- With `behind`, a last comma may come or go behind the stretch. What L spells before a text that F allows, M spells in each text of the same words.
 pub record Moves {A : Type 0} (commas behind : Text → Bool) (L M : Lang A) (F : Text → Type 0) : Type 0 where
-  pub over : (t next : Text) (a : A) → L t next a → F next → skip (t ++ next) ≡ t ++ next → (v : Text) → Alike commas (t ++ next) v → Moved commas behind M next v a
+  pub over : (t next : Text) (a : A) → L t next a → F next → skip (t ++ next) ≡ t ++ next → (v : Text) → Alike commas (t ++ next) v
+      → Moved commas behind M next v a

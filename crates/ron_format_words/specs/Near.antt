@@ -21,4 +21,5 @@ pub record MovesWord {A : Type 0} (commas : Text → Bool) (L : Lang A) (F : Tex
 
 -- the same directly behind a word, where nothing may be spelled too
 pub record MovesNear {A : Type 0} (commas : Text → Bool) (L : Lang A) (F : Text → Type 0) : Type 0 where
-  pub over : (t next : Text) (a : A) → L t next a → F next → (left rest other : Text) → Step commas a_word (t ++ next) left rest other → Alike commas rest other → MovedWord commas L next left a
+  pub over : (t next : Text) (a : A) → L t next a → F next → (left rest other : Text) → Step commas a_word (t ++ next) left rest other → Alike commas rest other
+      → MovedWord commas L next left a

@@ -39,4 +39,5 @@ KeepsUnits = (s u : Text) → SameWords anywhere s u → Whole AUnit s done → 
 
 -- a word directly before `(`, as the name of a tuple struct, stands directly before it in every text of the same words
 abbrev pub KeepsNames : Type 0
-KeepsNames = (w rest v : Text) → begins is_solid w ≡ true → token (w ++ left_parenthesis ∷ rest) ≡ Some (left_parenthesis ∷ rest) → Alike anywhere (w ++ left_parenthesis ∷ rest) v → (other : Text) × (v ≡ w ++ left_parenthesis ∷ other)
+KeepsNames = (w rest v : Text) → begins is_solid w ≡ true → token (w ++ left_parenthesis ∷ rest) ≡ Some (left_parenthesis ∷ rest)
+    → Alike anywhere (w ++ left_parenthesis ∷ rest) v → (other : Text) × (v ≡ w ++ left_parenthesis ∷ other)

@@ -7,7 +7,8 @@ use Rattle.ron_spec_words.specs.Quoted.{byte}
 use Rattle.ron_spec_words.specs.Number.{Numeral, number}
 use Rattle.ron_spec_words.specs.AnyInteger.{byte_numeral, any_integer}
 
-pub any_byte : (s : Text) (b : ℕ) (n : Numeral) (rest : Text) → true ≡ begins_with (codes "b'") s → byte s ≡ got b rest → Some n ≡ byte_numeral b → any_integer s ≡ got n rest
+pub any_byte : (s : Text) (b : ℕ) (n : Numeral) (rest : Text) → true ≡ begins_with (codes "b'") s → byte s ≡ got b rest → Some n ≡ byte_numeral b
+    → any_integer s ≡ got n rest
 unfolding any_integer
 any_byte s b n rest e g is = rw (sym e, g) (ap (λ o. given o rest) (sym is))
 

@@ -1,5 +1,6 @@
 -- A name that is known before it is read: where it stands with a colon behind it, and how far a comparison with it goes.
-use Rattle.std.proofs.Common.{◌≡◌, ℕ, ◌≤◌, Bool, true, false, not, ◌&&◌, ◌==◌, cond, drop, [], ◌∷◌, ◌++◌, codes, ◌⊎◌, inl, inr, refl, sym, ap, ap₂, ◌∙◌, arith, eqb-true}
+use Rattle.std.proofs.Common.{◌≡◌, ℕ, ◌≤◌, Bool, true, false, not, ◌&&◌, ◌==◌, cond, drop, [], ◌∷◌, ◌++◌, codes, ◌⊎◌, inl, inr, refl, sym, ap, ap₂, ◌∙◌, arith}
+use Rattle.std.proofs.Common.{eqb-true}
 use Rattle.std.specs.List.{list_all}
 use Rattle.std.proofs.lemmas.Bool.{and_parts, and_right}
 use Rattle.std.proofs.Math.Bool.{or-true}
@@ -35,7 +36,8 @@ no_word [] n rest h b = absurd b
 no_word (c ∷ w) [] rest h b = ap (λ x. x && begins_with w rest) b.0
 no_word (c ∷ w) (d ∷ n) rest h b = go b.1 (no_word w n rest h.1)
   where
-    go : (continues_name c ≡ false) ⊎ EndsNames w → (EndsNames w → begins_with w (n ++ colon ∷ rest) ≡ false) → ((d == c) && begins_with w (n ++ colon ∷ rest)) ≡ false
+    go : (continues_name c ≡ false) ⊎ EndsNames w → (EndsNames w → begins_with w (n ++ colon ∷ rest) ≡ false)
+        → ((d == c) && begins_with w (n ++ colon ∷ rest)) ≡ false
     go (inl e) ih = rw (apart continues_name c d e h.0) refl
     go (inr k) ih = rw (ih k) (and_right (d == c) false refl)
 
@@ -77,7 +79,8 @@ part_run [] s = refl
 part_run (c ∷ n) [] = refl
 part_run (c ∷ n) (d ∷ s) = go ((d == c) && in_ascii_name c) refl (part_run n s)
   where
-    go : (b : Bool) → ((d == c) && in_ascii_name c) ≡ b → after_run continues_name (parting n s) ≡ after_run continues_name s → after_run continues_name (cond b (parting n s) (d ∷ s)) ≡ after_run continues_name (d ∷ s)
+    go : (b : Bool) → ((d == c) && in_ascii_name c) ≡ b → after_run continues_name (parting n s) ≡ after_run continues_name s
+        → after_run continues_name (cond b (parting n s) (d ∷ s)) ≡ after_run continues_name (d ∷ s)
     go true e ih =
         let k = and_parts (d == c) (in_ascii_name c) e in
         let is : continues_name d ≡ true = ap continues_name (eqb-true d c k.0) ∙ (and_parts _ (continues_name c) k.1).1 in

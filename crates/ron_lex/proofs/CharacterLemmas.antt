@@ -11,7 +11,8 @@ use Rattle.ron_spec_words.specs.Escape.{HexByte, HexAscii, UnicodeEscape, Escape
 use Rattle.ron_spec_words.specs.Quoted.{if_no_backslash, if_ascii_no_backslash, single_quoted, char, byte}
 use Rattle.ron_spec_words.proofs.Words.{word_choose, word_means, word_fail}
 use Rattle.ron_spec_words.proofs.Direct.{first_any, word_any}
-use Rattle.ron_spec_words.proofs.Escapes.{word_escape, word_hex_byte, word_hex_ascii, word_unicode, escaped_escape, escaped_means, escaped_byte, escaped_unicode, escaped_nothing, first_escaped}
+use Rattle.ron_spec_words.proofs.Escapes.{word_escape, word_hex_byte, word_hex_ascii, word_unicode, escaped_escape, escaped_means, escaped_byte}
+use Rattle.ron_spec_words.proofs.Escapes.{escaped_unicode, escaped_nothing, first_escaped}
 use Rattle.ron_spec_words.proofs.Quotes.{no_meaning, with_meaning}
 use Rattle.ron_lex.specs.Quoted.{quoted_char, quoted_byte}
 use Rattle.ron_lex.proofs.SplitLemmas.{behind_other, behind_char}
@@ -24,7 +25,8 @@ word_quoted_char = word_choose (is_at 92) (first_escaped (λ s. is_at 92 s ≡ t
 
 pub word_quoted_byte : IsWordReader quoted_byte (Or (Escape HexByte Nothing) (Means AnyOne if_ascii_no_backslash))
 word_quoted_byte = word_choose (is_at 92) (first_escaped (λ s. is_at 92 s ≡ true) (λ c s k. refl) (escaped_escape escaped_byte escaped_nothing))
-    (first_any (λ s. is_at 92 s ≡ false) if_ascii_no_backslash (λ c s a k. (no_meaning (c == 92) (Some c) a (with_meaning (is_ascii c) (if_no_backslash c) a k)).0))
+    (first_any (λ s. is_at 92 s ≡ false) if_ascii_no_backslash
+    (λ c s a k. (no_meaning (c == 92) (Some c) a (with_meaning (is_ascii c) (if_no_backslash c) a k)).0))
     (word_escape escaped_byte escaped_nothing word_hex_byte word_fail)
     (word_means if_ascii_no_backslash word_any)
 

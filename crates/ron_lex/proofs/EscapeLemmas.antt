@@ -1,6 +1,7 @@
 -- The reader functions of escapes, one step at a time: for the calls of `escape.rt`.
 use Rattle.std.specs.Prelude.{◌==◌}
-use Rattle.std.proofs.Common.{◌≡◌, ℕ, suc, ◌+◌, ◌-◌, ◌*◌, ◌^◌, ◌<◌, ◌≤◌, nat_le, Bool, true, false, ◌&&◌, cond, length, take, set, List, [], ◌∷◌, ◌++◌, chars, IsUtf8, Option, Some, None, refl, sym, ap, ◌∙◌, arith, append_assoc, append-nil, length-append, zero}
+use Rattle.std.proofs.Common.{◌≡◌, ℕ, suc, ◌+◌, ◌-◌, ◌*◌, ◌^◌, ◌<◌, ◌≤◌, nat_le, Bool, true, false, ◌&&◌, cond, length, take, set, List, [], ◌∷◌, ◌++◌, chars}
+use Rattle.std.proofs.Common.{IsUtf8, Option, Some, None, refl, sym, ap, ◌∙◌, arith, append_assoc, append-nil, length-append, zero}
 use Rattle.std.proofs.lemmas.List.{take_more_set}
 use Rattle.std.proofs.lemmas.Bool.Decides.{nat_tests}
 use Rattle.std.proofs.lemmas.Grind.{pow_more}
@@ -65,11 +66,13 @@ pub hex_first : (s t : List ℕ) → s ≡ 92 ∷ 120 ∷ t → means any_one he
 unfolding hex_byte
 hex_first s t e f = rw e (ap (λ o. and_directly o (λ a. means (means any_one hex_digit) (two_digits a))) f)
 
-pub hex_second : (s t u : List ℕ) (a : ℕ) → s ≡ 92 ∷ 120 ∷ t → means any_one hex_digit t ≡ got a u → means any_one hex_digit u ≡ failed bad → hex_byte s ≡ failed bad
+pub hex_second : (s t u : List ℕ) (a : ℕ) → s ≡ 92 ∷ 120 ∷ t → means any_one hex_digit t ≡ got a u → means any_one hex_digit u ≡ failed bad
+    → hex_byte s ≡ failed bad
 unfolding hex_byte
 hex_second s t u a e f g = rw e (ap (λ o. and_directly o (λ a. means (means any_one hex_digit) (two_digits a))) f ∙ rw g refl)
 
-pub hex_both : (s t u rest : List ℕ) (a b : ℕ) → s ≡ 92 ∷ 120 ∷ t → means any_one hex_digit t ≡ got a u → means any_one hex_digit u ≡ got b rest → hex_byte s ≡ got (a * 16 + b) rest
+pub hex_both : (s t u rest : List ℕ) (a b : ℕ) → s ≡ 92 ∷ 120 ∷ t → means any_one hex_digit t ≡ got a u → means any_one hex_digit u ≡ got b rest
+    → hex_byte s ≡ got (a * 16 + b) rest
 unfolding hex_byte
 hex_both s t u rest a b e f g = rw e (ap (λ o. and_directly o (λ a. means (means any_one hex_digit) (two_digits a))) f ∙ rw g refl)
 
@@ -88,10 +91,12 @@ character_one bs (d ∷ rest) c u e f = absurd (cc)
 
 -- ---- the bytes of a character
 
-pub bytes_more : (n m : ℕ) (bs s u : List ℕ) (b : ℕ) → n ≡ suc m → hex_byte s ≡ got b u → character_of (bs ++ b ∷ []) ≡ None → hex_bytes n bs s ≡ hex_bytes m (bs ++ b ∷ []) u
+pub bytes_more : (n m : ℕ) (bs s u : List ℕ) (b : ℕ) → n ≡ suc m → hex_byte s ≡ got b u → character_of (bs ++ b ∷ []) ≡ None
+    → hex_bytes n bs s ≡ hex_bytes m (bs ++ b ∷ []) u
 bytes_more n m bs s u b k e f = rw (k, e, f) refl
 
-pub bytes_turn : (count : ℕ) (bytes s u : List ℕ) (b : ℕ) → count < 4 → count < length bytes → hex_byte s ≡ got b u → None ≡ character_of (take (count + 1) (set bytes count b)) → hex_bytes (4 - count) (take count bytes) s ≡ hex_bytes (4 - (count + 1)) (take (count + 1) (set bytes count b)) u
+pub bytes_turn : (count : ℕ) (bytes s u : List ℕ) (b : ℕ) → count < 4 → count < length bytes → hex_byte s ≡ got b u → None ≡ character_of
+    (take (count + 1) (set bytes count b)) → hex_bytes (4 - count) (take count bytes) s ≡ hex_bytes (4 - (count + 1)) (take (count + 1) (set bytes count b)) u
 bytes_turn count bytes s u b m n e f =
     let k = take_more_set bytes count b n in
     rw k (bytes_more (4 - count) (4 - (count + 1)) (take count bytes) s u b (omega (arith, m)) e (sym (ap character_of k) ∙ sym f))
@@ -124,7 +129,8 @@ digit_is (c ∷ s) u d e = go (is_ascii_hexdigit c) refl e
     go true h k = let same : s ≡ u = cc in let value : digit_value c ≡ d = cc in record { char = c; first = ap (λ x. c ∷ x) same; is_hex = h; value_is = value }
     go false h k = absurd (cc)
 
-pub one_digit_more : (text rest after : List ℕ) (v k d : ℕ) → Digits text rest v k → means any_one hex_digit rest ≡ got d after → Digits text after (v * 16 + d) (k + 1)
+pub one_digit_more : (text rest after : List ℕ) (v k d : ℕ) → Digits text rest v k → means any_one hex_digit rest ≡ got d after
+    → Digits text after (v * 16 + d) (k + 1)
 one_digit_more text rest after v k d h e =
     let z = digit_is rest after d e in
     record {
@@ -152,28 +158,34 @@ after_run-front p [] s h = refl
 after_run-front p (c ∷ t) s h = rw h.0 (after_run-front p t s h.1)
 
 -- the digits in front, those that follow them, and what stands behind these
-braced-front : (t s : List ℕ) → Every is_ascii_hexdigit t → 1 ≤ length t → braced_character (t ++ s) ≡ and_directly (given (named_character (t ++ run_of is_ascii_hexdigit s)) (after_run is_ascii_hexdigit s)) (λ c. mark 125 c)
+braced-front : (t s : List ℕ) → Every is_ascii_hexdigit t → 1 ≤ length t
+    → braced_character (t ++ s) ≡ and_directly (given (named_character (t ++ run_of is_ascii_hexdigit s)) (after_run is_ascii_hexdigit s)) (λ c. mark 125 c)
 braced-front [] s h m = absurd (omega (arith, m))
 braced-front (c ∷ t) s h m = rw (h.0, run_of-front is_ascii_hexdigit t s h.1, after_run-front is_ascii_hexdigit t s h.1) refl
 
 -- where no digit follows
-braced-run : (t s : List ℕ) → Every is_ascii_hexdigit t → 1 ≤ length t → begins is_ascii_hexdigit s ≡ false → braced_character (t ++ s) ≡ and_directly (given (named_character t) s) (λ c. mark 125 c)
+braced-run : (t s : List ℕ) → Every is_ascii_hexdigit t → 1 ≤ length t → begins is_ascii_hexdigit s ≡ false
+    → braced_character (t ++ s) ≡ and_directly (given (named_character t) s) (λ c. mark 125 c)
 braced-run t [] h m e = braced-front t [] h m ∙ ap (λ x. and_directly (given (named_character x) []) (λ c. mark 125 c)) (append-nil t)
 braced-run t (d ∷ s) h m e = braced-front t (d ∷ s) h m ∙ rw e (ap (λ x. and_directly (given (named_character x) (d ∷ s)) (λ c. mark 125 c)) (append-nil t))
 
 some_front : (text rest : List ℕ) (v k : ℕ) (h : Digits text rest v k) → 0 < k → 1 ≤ length h.front
 some_front text rest v k h m = omega (arith, m, h.count_is)
 
-pub braced_is : (text rest after : List ℕ) (v k : ℕ) → Digits text rest v k → 0 < k → k ≤ 6 → rest ≡ 125 ∷ after → scalar v ≡ true → braced_character text ≡ got v after
+pub braced_is : (text rest after : List ℕ) (v k : ℕ) → Digits text rest v k → 0 < k → k ≤ 6 → rest ≡ 125 ∷ after → scalar v ≡ true
+    → braced_character text ≡ got v after
 braced_is text rest after v k h m n e f =
     let few : nat_le (length h.front) 6 ≡ true = grind (arith, nat_tests, h.count_is) in
     let g : scalar (place_value 16 h.front) ≡ true = ap scalar h.value_is ∙ f in
-    ap braced_character (h.split ∙ ap (λ x. h.front ++ x) e) ∙ braced-run h.front (125 ∷ after) h.every (some_front text rest v k h m) refl ∙ rw (few, g, h.value_is) refl
+    ap braced_character (h.split ∙ ap (λ x. h.front ++ x) e) ∙ braced-run h.front (125 ∷ after) h.every (some_front text rest v k h m) refl
+    ∙ rw (few, g, h.value_is) refl
 
-pub braced_nameless : (text rest after : List ℕ) (v k : ℕ) → Digits text rest v k → 0 < k → rest ≡ 125 ∷ after → scalar v ≡ false → braced_character text ≡ failed bad
+pub braced_nameless : (text rest after : List ℕ) (v k : ℕ) → Digits text rest v k → 0 < k → rest ≡ 125 ∷ after → scalar v ≡ false
+    → braced_character text ≡ failed bad
 braced_nameless text rest after v k h m e f =
     let g : scalar (place_value 16 h.front) ≡ false = ap scalar h.value_is ∙ f in
-    ap braced_character (h.split ∙ ap (λ x. h.front ++ x) e) ∙ braced-run h.front (125 ∷ after) h.every (some_front text rest v k h m) refl ∙ rw g (none (nat_le (length h.front) 6))
+    ap braced_character (h.split ∙ ap (λ x. h.front ++ x) e) ∙ braced-run h.front (125 ∷ after) h.every (some_front text rest v k h m) refl
+    ∙ rw g (none (nat_le (length h.front) 6))
   where
     none : (b : Bool) → and_directly (given (cond (b && false) (Some (place_value 16 h.front)) None) (125 ∷ after)) (λ c. mark 125 c) ≡ failed bad
     none true = refl
@@ -195,12 +207,14 @@ unclosed None s e = refl
 unclosed (Some v) [] e = refl
 unclosed (Some v) (d ∷ s) e = rw e refl
 
-pub braced_stopped : (text rest : List ℕ) (v k : ℕ) → Digits text rest v k → is_at 125 rest ≡ false → begins is_ascii_hexdigit rest ≡ false → braced_character text ≡ failed bad
+pub braced_stopped : (text rest : List ℕ) (v k : ℕ) → Digits text rest v k → is_at 125 rest ≡ false → begins is_ascii_hexdigit rest ≡ false
+    → braced_character text ≡ failed bad
 braced_stopped text rest v k h e f = go k h
   where
     go : (j : ℕ) → Digits text rest v j → braced_character text ≡ failed bad
     go zero h = braced_empty text rest v h f
-    go (suc j) h = ap braced_character h.split ∙ braced-run h.front rest h.every (some_front text rest v (suc j) h (omega arith)) f ∙ unclosed (named_character h.front) rest e
+    go (suc j) h = ap braced_character h.split ∙ braced-run h.front rest h.every (some_front text rest v (suc j) h (omega arith)) f
+        ∙ unclosed (named_character h.front) rest e
 
 pub braced_long : (text rest : List ℕ) (v k : ℕ) → Digits text rest v k → 6 ≤ k → is_at 125 rest ≡ false → braced_character text ≡ failed bad
 braced_long text [] v k h m e = braced_stopped text [] v k h e refl

@@ -34,7 +34,8 @@ pub line_goes_on : (s rest : Text) (c : ℕ) → after_run in_line s ≡ c ∷ r
 line_goes_on [] rest c e = absurd (cc)
 line_goes_on (d ∷ s) rest c e = go (d == 10) e (line_goes_on s rest c)
   where
-    go : (b : Bool) → cond (not b) (after_run in_line s) (d ∷ s) ≡ c ∷ rest → (after_run in_line s ≡ c ∷ rest → after_line s ≡ rest) → cond b s (after_line s) ≡ rest
+    go : (b : Bool) → cond (not b) (after_run in_line s) (d ∷ s) ≡ c ∷ rest → (after_run in_line s ≡ c ∷ rest → after_line s ≡ rest)
+        → cond b s (after_line s) ≡ rest
     go true k h = let z : s ≡ rest = cc in z
     go false k h = h k
 
@@ -89,7 +90,8 @@ from_mark : (n : ℕ) (s : Text) → after_block n (after_run (in_class Comment)
 from_mark n [] = refl
 from_mark n (c ∷ s) = go ((c == 42) || (c == 47)) refl (from_mark n s)
   where
-    go : (b : Bool) → ((c == 42) || (c == 47)) ≡ b → after_block n (after_run (in_class Comment) s) ≡ after_block n s → after_block n (cond (not b) (after_run (in_class Comment) s) (c ∷ s)) ≡ after_block n (c ∷ s)
+    go : (b : Bool) → ((c == 42) || (c == 47)) ≡ b → after_block n (after_run (in_class Comment) s) ≡ after_block n s
+        → after_block n (cond (not b) (after_run (in_class Comment) s) (c ∷ s)) ≡ after_block n (c ∷ s)
     go true e h = refl
     go false e h = h ∙ sym (no_mark n c s (or_parts (c == 42) (c == 47) e).0 (or_parts (c == 42) (c == 47) e).1)
 

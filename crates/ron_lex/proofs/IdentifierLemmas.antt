@@ -42,7 +42,8 @@ raw_behind_run : (s : Text) → after_run in_raw_name (after_run continues_name 
 raw_behind_run [] = refl
 raw_behind_run (c ∷ s) = go (continues_name c) refl (raw_behind_run s)
   where
-    go : (b : Bool) → continues_name c ≡ b → after_run in_raw_name (after_run continues_name s) ≡ after_run in_raw_name s → after_run in_raw_name (cond b (after_run continues_name s) (c ∷ s)) ≡ after_run in_raw_name (c ∷ s)
+    go : (b : Bool) → continues_name c ≡ b → after_run in_raw_name (after_run continues_name s) ≡ after_run in_raw_name s
+        → after_run in_raw_name (cond b (after_run continues_name s) (c ∷ s)) ≡ after_run in_raw_name (c ∷ s)
     go true e h = h ∙ sym (ap (λ b. cond b (after_run in_raw_name s) (c ∷ s)) (in_both_names c e))
     go false e h = refl
 
@@ -50,7 +51,8 @@ pub run_past_word : (s n rest : Text) → run starts_name continues_name s ≡ g
 run_past_word [] n rest e = absurd (cc)
 run_past_word (c ∷ s) n rest e = go (starts_name c) e
   where
-    go : (b : Bool) → cond b (got (c ∷ run_of continues_name s) (after_run continues_name s)) (failed bad) ≡ got n rest → after_run in_raw_name rest ≡ after_run in_raw_name (cond b s (c ∷ s))
+    go : (b : Bool) → cond b (got (c ∷ run_of continues_name s) (after_run continues_name s)) (failed bad) ≡ got n rest
+        → after_run in_raw_name rest ≡ after_run in_raw_name (cond b s (c ∷ s))
     go true h = let same : after_run continues_name s ≡ rest = cc in ap (after_run in_raw_name) (sym same) ∙ raw_behind_run s
     go false h = absurd (cc)
 
@@ -58,7 +60,8 @@ pub run_past_none : (s : Text) → run starts_name continues_name s ≡ failed b
 run_past_none [] e = refl
 run_past_none (c ∷ s) e = go (starts_name c) e
   where
-    go : (b : Bool) → cond b (got (c ∷ run_of continues_name s) (after_run continues_name s)) (failed bad) ≡ failed bad → after_run in_raw_name (c ∷ s) ≡ after_run in_raw_name (cond b s (c ∷ s))
+    go : (b : Bool) → cond b (got (c ∷ run_of continues_name s) (after_run continues_name s)) (failed bad) ≡ failed bad
+        → after_run in_raw_name (c ∷ s) ≡ after_run in_raw_name (cond b s (c ∷ s))
     go true h = absurd (cc)
     go false h = refl
 

@@ -1,5 +1,6 @@
 -- The kinds behind the opening brackets of a text: a turn of the pass that finds them, and what is known of a place.
-use Rattle.std.proofs.Common.{◌≡◌, ℕ, zero, suc, ◌+◌, ◌-◌, ◌<◌, ◌≤◌, Bool, true, false, cond, if◌then◌else◌, length, List, [], ◌∷◌, ◌++◌, map, append_assoc, append-nil, Option, Some, None, option_map, IfSome, IsSome, refl, sym, ap, subst, ◌∙◌, length-append, arith}
+use Rattle.std.proofs.Common.{◌≡◌, ℕ, zero, suc, ◌+◌, ◌-◌, ◌<◌, ◌≤◌, Bool, true, false, cond, if◌then◌else◌, length, List, [], ◌∷◌, ◌++◌, map, append_assoc}
+use Rattle.std.proofs.Common.{append-nil, Option, Some, None, option_map, IfSome, IsSome, refl, sym, ap, subst, ◌∙◌, length-append, arith}
 use Rattle.std.specs.Prelude.{Contains, reverse, slice_get, slice_set, slice_index_or}
 use Rattle.std.specs.List.Sorted.{IsNonDecreasing}
 use Rattle.std.proofs.lemmas.List.{reverse-append}
@@ -105,7 +106,8 @@ unfolding kind
 kind_behind_gap s =
     let k = cut s in
     let over : seek zero zero s ≡ seek zero zero (skip s) = ap (seek zero zero) k.split ∙ seek-walk (walk_gap false zero (gap_of s) (skip s) k.is_gap) in
-    ap (λ t. cond (opens_field t) named_fields (kind_at (seek zero zero (skip s)))) (skip-skip s) ∙ ap (λ t. cond (opens_field (skip s)) named_fields (kind_at t)) (sym over)
+    ap (λ t. cond (opens_field t) named_fields (kind_at (seek zero zero (skip s)))) (skip-skip s)
+    ∙ ap (λ t. cond (opens_field (skip s)) named_fields (kind_at t)) (sym over)
 
 told_behind_gap : (k : words.Kind) (s rest : Text) → k ≡ kind s → rest ≡ skip s → (k ≡ kind rest) × (rest ≡ skip rest)
 told_behind_gap k s rest e here = (e ∙ sym (kind_behind_gap s) ∙ ap kind (sym here), here ∙ sym (skip-skip s) ∙ ap skip (sym here))
@@ -114,7 +116,8 @@ pub told_place : (k : Kind) (s rest : Text) → kind_view k ≡ kind s → rest 
 told_place k s rest e r = rw r (record { named = told_named k s e; many = told_many k s e })
 
 -- what stands in the table at the place behind which this is left
-pub known_place : (text rest : Text) (places : List ℕ) (ks : List Kind) (place i : ℕ) (k : Kind) → AreKindsIn text places (map kind_view ks) → IsSuffix rest text → place + bytes_in rest ≡ bytes_in text → slice_get places i ≡ Some place → slice_get ks i ≡ Some k → (kind_view k ≡ kind rest) × (rest ≡ skip rest)
+pub known_place : (text rest : Text) (places : List ℕ) (ks : List Kind) (place i : ℕ) (k : Kind) → AreKindsIn text places (map kind_view ks) → IsSuffix rest
+    text → place + bytes_in rest ≡ bytes_in text → slice_get places i ≡ Some place → slice_get ks i ≡ Some k → (kind_view k ≡ kind rest) × (rest ≡ skip rest)
 known_place text rest places ks place i k are end counts at kind_at =
     let t = got_of_map (content_place text) (insides text) i place (ap (λ xs. slice_get xs i) (sym are.places_are) ∙ at) in
     let e : slice_get (map kind (insides text)) i ≡ Some (kind_view k) = ap (λ xs. slice_get xs i) (sym are.kinds_are) ∙ got_view ks i kind_at in
@@ -124,7 +127,8 @@ known_place text rest places ks place i k are end counts at kind_at =
     let inside = skipped_end front.0 t.0 text front.1 in
     let some = size_end end.front rest text end.is in
     let most = size_end inside.front (skip t.0) text inside.is in
-    told_behind_gap (kind_view k) t.0 rest (sym u.1.1 ∙ ap kind alike) (same_end end.front inside.front rest (skip t.0) (sym end.is ∙ inside.is) (omega (arith, t.1.1, counts, some, most)))
+    told_behind_gap (kind_view k) t.0 rest (sym u.1.1 ∙ ap kind alike)
+    (same_end end.front inside.front rest (skip t.0) (sym end.is ∙ inside.is) (omega (arith, t.1.1, counts, some, most)))
   where
     got_view : (ks : List Kind) (i : ℕ) → slice_get ks i ≡ Some k → slice_get (map kind_view ks) i ≡ Some (kind_view k)
     got_view [] i e = absurd (cc)
@@ -132,11 +136,19 @@ known_place text rest places ks place i k are end counts at kind_at =
     got_view (x ∷ xs) (suc i) e = got_view xs i e
 
 -- a place where content begins to which whole tokens lead is in the table
-pub place_is_known : (text rest : Text) (places : List ℕ) (ks : List Kind) (place : ℕ) → AreKindsIn text places (map kind_view ks) → place + bytes_in rest ≡ bytes_in text → BeginsContent text rest → (length ks ≡ length places → IsNonDecreasing places → Contains places place → ⊥) → ⊥
+pub place_is_known : (text rest : Text) (places : List ℕ) (ks : List Kind) (place : ℕ) → AreKindsIn text places (map kind_view ks)
+    → place + bytes_in rest ≡ bytes_in text → BeginsContent text rest → (length ks ≡ length places → IsNonDecreasing places → Contains places place → ⊥) → ⊥
 place_is_known text rest places ks place are counts start none =
     let at = contained_of_map (content_place text) (insides text) start.inside (finds_content text rest start) in
     let here : content_place text start.inside ≡ place = omega (arith, ap bytes_in start.begins, counts) in
-    none (omega (arith, length_map kind_view ks, ap length are.kinds_are, length_map kind (insides text), ap length are.places_are, length_map (content_place text) (insides text))) (rw are.places_are (are_in_order text)) (rw (are.places_are, sym here) at)
+    none (omega (
+      arith,
+      length_map kind_view ks,
+      ap length are.kinds_are,
+      length_map kind (insides text),
+      ap length are.places_are,
+      length_map (content_place text) (insides text),
+    )) (rw are.places_are (are_in_order text)) (rw (are.places_are, sym here) at)
   where
     length_map : {A B : Type 0} (f : A → B) (xs : List A) → length (map f xs) ≡ length xs
     length_map f [] = refl
@@ -153,14 +165,16 @@ module _ (text rest : Text) (known : Table) (ks : Kinds) (place : ℕ) (found : 
   these : AreKindsIn text ks.places.items (map kind_view ks.kinds.items)
   these = subst (λ k. AreKindsOf k text) is are
 
-  pub known_at : IsSuffix rest text → place + bytes_in rest ≡ bytes_in text → FindsKind ks.places.items ks.kinds.items place found → IfSome found (λ k. TellsPlace k rest)
+  pub known_at : IsSuffix rest text → place + bytes_in rest ≡ bytes_in text → FindsKind ks.places.items ks.kinds.items place found
+      → IfSome found (λ k. TellsPlace k rest)
   known_at end counts h = go found h
     where
       go : (o : Option Kind) → FindsKind ks.places.items ks.kinds.items place o → IfSome o (λ k. TellsPlace k rest)
       go None h = tt
       go (Some k) h = let p = known_place text rest ks.places.items ks.kinds.items place h.0 k these end counts h.1 h.2 in told_place k rest rest p.0 p.1
 
-  pub known_kind_at : IsSuffix rest text → place + bytes_in rest ≡ bytes_in text → FindsKind ks.places.items ks.kinds.items place found → IfSome found (λ k. kind_view k ≡ kind rest)
+  pub known_kind_at : IsSuffix rest text → place + bytes_in rest ≡ bytes_in text → FindsKind ks.places.items ks.kinds.items place found
+      → IfSome found (λ k. kind_view k ≡ kind rest)
   known_kind_at end counts h = go found h
     where
       go : (o : Option Kind) → FindsKind ks.places.items ks.kinds.items place o → IfSome o (λ k. kind_view k ≡ kind rest)
@@ -186,9 +200,11 @@ last_first (x ∷ (y ∷ xs)) i e =
     let k = last_first (y ∷ xs) i (ap (slice_get (y ∷ xs)) m ∙ ap (slice_get (x ∷ (y ∷ xs))) (sym n) ∙ e) in
     (k.0 ++ x ∷ [], reverse-append (x ∷ []) (y ∷ xs) ∙ ap (λ v. v ++ x ∷ []) k.1)
 
-pub tell_set : (i : ℕ) (k x y : Kind) (xs : List Kind) → slice_get xs i ≡ Some x → kind_view y ≡ settle (kind_view k) (kind_view x) → map kind_view (slice_set xs i y) ≡ tell i (kind_view k) (map kind_view xs)
+pub tell_set : (i : ℕ) (k x y : Kind) (xs : List Kind) → slice_get xs i ≡ Some x → kind_view y ≡ settle (kind_view k) (kind_view x)
+    → map kind_view (slice_set xs i y) ≡ tell i (kind_view k) (map kind_view xs)
 tell_set i k x y [] e h = absurd (cc)
-tell_set zero k x y (z ∷ xs) e h = let same : z ≡ x = (let q = e in cc) in ap (λ v. v ∷ map kind_view xs) (h ∙ ap (λ v. settle (kind_view k) (kind_view v)) (sym same))
+tell_set zero k x y (z ∷ xs) e h = let same : z ≡ x = (let q = e in cc) in
+    ap (λ v. v ∷ map kind_view xs) (h ∙ ap (λ v. settle (kind_view k) (kind_view v)) (sym same))
 tell_set (suc i) k x y (z ∷ xs) e h = ap (λ v. kind_view z ∷ v) (tell_set i k x y xs e h)
 
 pub tell_beyond : (i : ℕ) (k : words.Kind) (xs : List words.Kind) → length xs ≤ i → tell i k xs ≡ xs
@@ -201,21 +217,29 @@ length_view [] = refl
 length_view (x ∷ xs) = ap suc (length_view xs)
 
 -- what the table holds of the innermost group
-pub told_within : (i : ℕ) (k x y : Kind) (groups : List ℕ) (ks : List Kind) → slice_get groups (length groups - 1) ≡ Some i → slice_get ks i ≡ Some x → kind_view y ≡ settle (kind_view k) (kind_view x) → map kind_view (slice_set ks i y) ≡ tell_innermost (reverse groups) (kind_view k) (map kind_view ks)
+pub told_within : (i : ℕ) (k x y : Kind) (groups : List ℕ) (ks : List Kind) → slice_get groups (length groups - 1) ≡ Some i → slice_get ks i ≡ Some x
+    → kind_view y ≡ settle (kind_view k) (kind_view x) → map kind_view (slice_set ks i y) ≡ tell_innermost (reverse groups) (kind_view k) (map kind_view ks)
 told_within i k x y groups ks last at told = let r = last_first groups i last in rw r.1 (tell_set i k x y ks at told)
 
-pub told_beyond : (i : ℕ) (k : Kind) (groups : List ℕ) (ks : List Kind) → slice_get groups (length groups - 1) ≡ Some i → length ks ≤ i → map kind_view ks ≡ tell_innermost (reverse groups) (kind_view k) (map kind_view ks)
-told_beyond i k groups ks last le = let r = last_first groups i last in rw r.1 (sym (tell_beyond i (kind_view k) (map kind_view ks) (omega (arith, le, length_view ks))))
+pub told_beyond : (i : ℕ) (k : Kind) (groups : List ℕ) (ks : List Kind) → slice_get groups (length groups - 1) ≡ Some i → length ks ≤ i
+    → map kind_view ks ≡ tell_innermost (reverse groups) (kind_view k) (map kind_view ks)
+told_beyond i k groups ks last le = let r = last_first groups i last in
+    rw r.1 (sym (tell_beyond i (kind_view k) (map kind_view ks) (omega (arith, le, length_view ks))))
 
 -- what the pass finds behind a token is what it finds before it
-pass_over : (stage : Stage) (groups : List ℕ) (table whole : List words.Kind) (s rest : Text) → token s ≡ Some rest → fill_from zero stage groups table s ≡ whole → fill_from zero (next_stage stage s) (next_groups (length table) s groups) (next_table stage s groups table) rest ≡ whole
+pass_over : (stage : Stage) (groups : List ℕ) (table whole : List words.Kind) (s rest : Text) → token s ≡ Some rest → fill_from zero stage groups table s
+    ≡ whole → fill_from zero (next_stage stage s) (next_groups (length table) s groups) (next_table stage s groups table) rest ≡ whole
 pass_over stage groups table whole [] rest h e = absurd (let z : None ≡ Some rest = sym (none_there [] refl) ∙ h in cc)
 pass_over stage groups table whole (c ∷ s) rest h e = sym (fill_over stage groups table c s rest h) ∙ e
 
-pub pass_on : (stage there : Stage) (groups opened : List ℕ) (table told whole : List words.Kind) (n : ℕ) (s rest : Text) → token s ≡ Some rest → n ≡ length table → there ≡ next_stage stage s → opened ≡ next_groups n s groups → told ≡ next_table stage s groups table → fill_from zero stage groups table s ≡ whole → fill_from zero there opened told rest ≡ whole
+pub pass_on : (stage there : Stage) (groups opened : List ℕ) (table told whole : List words.Kind) (n : ℕ) (s rest : Text) → token s ≡ Some rest
+    → n ≡ length table → there ≡ next_stage stage s → opened ≡ next_groups n s groups → told ≡ next_table stage s groups table
+    → fill_from zero stage groups table s ≡ whole → fill_from zero there opened told rest ≡ whole
 pass_on stage there groups opened table told whole n s rest h count x y z e = rw (x, y, z, count) (pass_over stage groups table whole s rest h e)
 
-pub places_on : (text : Text) (places more whole : List ℕ) (s rest : Text) → token s ≡ Some rest → more ≡ places ++ (if begins is_opening s then content_place text rest ∷ [] else []) → places ++ map (content_place text) (insides s) ≡ whole → more ++ map (content_place text) (insides rest) ≡ whole
+pub places_on : (text : Text) (places more whole : List ℕ) (s rest : Text) → token s ≡ Some rest
+    → more ≡ places ++ (if begins is_opening s then content_place text rest ∷ [] else []) → places ++ map (content_place text) (insides s) ≡ whole
+    → more ++ map (content_place text) (insides rest) ≡ whole
 places_on text places more whole [] rest h m e = absurd (let z : None ≡ Some rest = sym (none_there [] refl) ∙ h in cc)
 places_on text places more whole (c ∷ s) rest h m e = ap (λ xs. xs ++ map f (insides rest)) m ∙ go (is_opening c) refl
   where
@@ -225,13 +249,21 @@ places_on text places more whole (c ∷ s) rest h m e = ap (λ xs. xs ++ map f (
     go : (o : Bool) → is_opening c ≡ o → (places ++ cond o (f rest ∷ []) []) ++ map f (insides rest) ≡ whole
     go true o =
         let same : rest ≡ s = (let z = sym h ∙ opening_alone c s o in cc) in
-        append_assoc places (f rest ∷ []) (map f (insides rest)) ∙ ap (λ u. places ++ f u ∷ map f (insides u)) same ∙ ap (λ xs. places ++ map f xs) (sym (insides_open c s o)) ∙ e
+        append_assoc places (f rest ∷ []) (map f (insides rest)) ∙ ap (λ u. places ++ f u ∷ map f (insides u)) same
+        ∙ ap (λ xs. places ++ map f xs) (sym (insides_open c s o)) ∙ e
     go false o = append_assoc places [] (map f (insides rest)) ∙ ap (λ xs. places ++ map f xs) (sym (insides_within c s rest h o)) ∙ e
 
 -- what was found where a token is broken, or the text ends, is all
-pub found_all : (text : Text) (stage : Stage) (groups : List ℕ) (places : List ℕ) (table : List words.Kind) (s : Text) → token s ≡ None → fill_from zero stage groups table s ≡ kind_table text → places ++ map (content_place text) (insides s) ≡ map (content_place text) (insides text) → AreKindsIn text places table
-found_all text stage groups places table [] h f p = record { places_are = sym (ap (λ xs. places ++ map (content_place text) xs) insides_end ∙ append-nil places) ∙ p; kinds_are = sym (fill_end stage groups table) ∙ f ∙ is_table text ∙ kinds_of_insides text }
-found_all text stage groups places table (c ∷ s) h f p = record { places_are = sym (ap (λ xs. places ++ map (content_place text) xs) (insides_broken c s h) ∙ append-nil places) ∙ p; kinds_are = sym (fill_broken stage groups table c s h) ∙ f ∙ is_table text ∙ kinds_of_insides text }
+pub found_all : (text : Text) (stage : Stage) (groups : List ℕ) (places : List ℕ) (table : List words.Kind) (s : Text) → token s ≡ None → fill_from zero stage
+    groups table s ≡ kind_table text → places ++ map (content_place text) (insides s) ≡ map (content_place text) (insides text) → AreKindsIn text places table
+found_all text stage groups places table [] h f p = record {
+  places_are = sym (ap (λ xs. places ++ map (content_place text) xs) insides_end ∙ append-nil places) ∙ p;
+  kinds_are = sym (fill_end stage groups table) ∙ f ∙ is_table text ∙ kinds_of_insides text;
+}
+found_all text stage groups places table (c ∷ s) h f p = record {
+  places_are = sym (ap (λ xs. places ++ map (content_place text) xs) (insides_broken c s h) ∙ append-nil places) ∙ p;
+  kinds_are = sym (fill_broken stage groups table c s h) ∙ f ∙ is_table text ∙ kinds_of_insides text;
+}
 
 -- an element that stands at an index
 pub got_within : (ks : List Kind) (i : ℕ) (k : Kind) → i < length ks → k ≡ slice_index_or ks i k → slice_get ks i ≡ Some k

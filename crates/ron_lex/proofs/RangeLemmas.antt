@@ -40,10 +40,12 @@ end_refused : (start : Option Numeral) (closed : Bool) (o : Got Numeral) → Ref
 end_refused start closed (got n rest) h = inr h
 end_refused start closed (failed f) h = h
 
-pub closed_end_refused : (start : Option Numeral) (s t : Text) (fault : UntypedIntegerFault) (rest : Text) → s ≡ 46 ∷ 46 ∷ 61 ∷ t → RefusesUntyped t fault rest → RefusesInterval (points start s)
+pub closed_end_refused : (start : Option Numeral) (s t : Text) (fault : UntypedIntegerFault) (rest : Text) → s ≡ 46 ∷ 46 ∷ 61 ∷ t → RefusesUntyped t fault rest
+    → RefusesInterval (points start s)
 closed_end_refused start s t fault rest e h = rw e (end_refused start true (untyped_integer t) (number_refused t fault rest h))
 
-pub open_end_refused : (start : Option Numeral) (s t : Text) (fault : UntypedIntegerFault) (rest : Text) → s ≡ 46 ∷ 46 ∷ t → begins_with (codes "..=") s ≡ false → opens_integer t ≡ true → RefusesUntyped t fault rest → RefusesInterval (points start s)
+pub open_end_refused : (start : Option Numeral) (s t : Text) (fault : UntypedIntegerFault) (rest : Text) → s ≡ 46 ∷ 46 ∷ t → begins_with (codes "..=") s ≡ false
+    → opens_integer t ≡ true → RefusesUntyped t fault rest → RefusesInterval (points start s)
 open_end_refused start s t fault rest e no_equals opens h =
     let m = begins_one 61 t (rw e at no_equals) in
     rw (e, m, opens) (end_refused start false (untyped_integer t) (number_refused t fault rest h))
@@ -54,7 +56,8 @@ behind_refused : (c : ℕ) (r : Reader Interval) → ((s : Text) → RefusesInte
 behind_refused c r h [] = refl
 behind_refused c r h (d ∷ s) = elim (d == c) as (λ b. RefusesInterval (cond b (r s) (failed bad))) [ true ↦ h s | false ↦ refl ]
 
-pick_refused : (p : Text → Bool) (q r : Reader Interval) → ((s : Text) → RefusesInterval (q s)) → ((s : Text) → RefusesInterval (r s)) → (s : Text) → RefusesInterval (pick p q r s)
+pick_refused : (p : Text → Bool) (q r : Reader Interval) → ((s : Text) → RefusesInterval (q s)) → ((s : Text) → RefusesInterval (r s)) → (s : Text)
+    → RefusesInterval (pick p q r s)
 pick_refused p q r h k s = elim (p s) as (λ b. RefusesInterval (cond b (q s) (r s))) [ true ↦ h s | false ↦ k s ]
 
 start_refused : (n : Numeral) → HasLargeMagnitude n → (closed : Bool) (s : Text) → RefusesInterval (means untyped_integer (up_to (Some n) closed) s)
@@ -84,14 +87,17 @@ pub points_first : (s : Text) → opens_points s ≡ true → number_or_range s 
 unfolding number_or_range
 points_first s e = rw e refl
 
-pub first_refused : (s : Text) (fault : UntypedIntegerFault) (rest : Text) → opens_points s ≡ false → RefusesUntyped s fault rest → RefusesInterval (number_or_range s)
+pub first_refused : (s : Text) (fault : UntypedIntegerFault) (rest : Text) → opens_points s ≡ false → RefusesUntyped s fault rest
+    → RefusesInterval (number_or_range s)
 unfolding number_or_range
 first_refused s fault rest e h = rw e (number_first_refused (untyped_integer s) (number_refused s fault rest h))
 
-pub points_behind : (s : Text) (n : Numeral) (rest : Text) → opens_points s ≡ false → untyped_integer s ≡ got n rest → opens_points rest ≡ true → number_or_range s ≡ points (Some n) rest
+pub points_behind : (s : Text) (n : Numeral) (rest : Text) → opens_points s ≡ false → untyped_integer s ≡ got n rest → opens_points rest ≡ true
+    → number_or_range s ≡ points (Some n) rest
 unfolding number_or_range
 points_behind s n rest e f b = rw (e, f, b) refl
 
-pub nothing_behind : (s : Text) (n : Numeral) (rest : Text) → opens_points s ≡ false → untyped_integer s ≡ got n rest → opens_points rest ≡ false → number_or_range s ≡ got (one n) rest
+pub nothing_behind : (s : Text) (n : Numeral) (rest : Text) → opens_points s ≡ false → untyped_integer s ≡ got n rest → opens_points rest ≡ false
+    → number_or_range s ≡ got (one n) rest
 unfolding number_or_range
 nothing_behind s n rest e f b = rw (e, f, b) refl

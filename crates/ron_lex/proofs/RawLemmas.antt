@@ -22,7 +22,8 @@ run-hashes : (s : Text) → run_of is_hash s ≡ hashes (length (run_of is_hash 
 run-hashes [] = refl
 run-hashes (c ∷ s) = go (c == 35) refl (run-hashes s)
   where
-    go : (b : Bool) → (c == 35) ≡ b → run_of is_hash s ≡ hashes (length (run_of is_hash s)) → cond b (c ∷ run_of is_hash s) [] ≡ hashes (length (cond b (c ∷ run_of is_hash s) []))
+    go : (b : Bool) → (c == 35) ≡ b → run_of is_hash s ≡ hashes (length (run_of is_hash s))
+        → cond b (c ∷ run_of is_hash s) [] ≡ hashes (length (cond b (c ∷ run_of is_hash s) []))
     go true e h = ap₂ (λ x y. x ∷ y) (eqb-true c 35 e) h
     go false e h = refl
 
@@ -55,7 +56,8 @@ count-run : (s : Text) → count_hashes s ≡ got (length (run_of is_hash s)) (a
 count-run [] = refl
 count-run (c ∷ s) = go (c == 35) (count-run s)
   where
-    go : (b : Bool) → count_hashes s ≡ got (length (run_of is_hash s)) (after_run is_hash s) → cond b (meant (count_hashes s) one_more) (got 0 (c ∷ s)) ≡ got (length (cond b (c ∷ run_of is_hash s) [])) (cond b (after_run is_hash s) (c ∷ s))
+    go : (b : Bool) → count_hashes s ≡ got (length (run_of is_hash s)) (after_run is_hash s)
+        → cond b (meant (count_hashes s) one_more) (got 0 (c ∷ s)) ≡ got (length (cond b (c ∷ run_of is_hash s) [])) (cond b (after_run is_hash s) (c ∷ s))
     go true h = ap (λ o. meant o one_more) h
     go false h = refl
 
@@ -70,9 +72,11 @@ pub raw_unopened : (s opening : Text) → opening ≡ after_run is_hash s → is
 raw_unopened s opening e f = raw-opening s opening e ∙ behind_other 34 (upto (34 ∷ run_of is_hash s)) opening f
 
 -- the hashes are what stands before the quote
-pub raw_opened : (s opening content front : Text) → opening ≡ after_run is_hash s → opening ≡ 34 ∷ content → s ≡ front ++ opening → raw s ≡ upto (34 ∷ front) content
+pub raw_opened : (s opening content front : Text) → opening ≡ after_run is_hash s → opening ≡ 34 ∷ content → s ≡ front ++ opening
+    → raw s ≡ upto (34 ∷ front) content
 raw_opened s opening content front e f g =
-    let same : front ≡ run_of is_hash s = append_cancel_right front (run_of is_hash s) opening (sym g ∙ run_joined is_hash s ∙ ap (λ x. run_of is_hash s ++ x) (sym e)) in
+    let same : front ≡ run_of is_hash s =
+    append_cancel_right front (run_of is_hash s) opening (sym g ∙ run_joined is_hash s ∙ ap (λ x. run_of is_hash s ++ x) (sym e)) in
     raw-opening s opening e ∙ rw (f, same) refl
 
 -- ---- the place of the ending
@@ -85,7 +89,8 @@ pub hashes_unquoted : (s : Text) → after_run unquoted (after_run is_hash s) �
 hashes_unquoted [] = refl
 hashes_unquoted (c ∷ s) = go (c == 35) refl (hashes_unquoted s)
   where
-    go : (b : Bool) → (c == 35) ≡ b → after_run unquoted (after_run is_hash s) ≡ after_run unquoted s → after_run unquoted (cond b (after_run is_hash s) (c ∷ s)) ≡ after_run unquoted (c ∷ s)
+    go : (b : Bool) → (c == 35) ≡ b → after_run unquoted (after_run is_hash s) ≡ after_run unquoted s
+        → after_run unquoted (cond b (after_run is_hash s) (c ∷ s)) ≡ after_run unquoted (c ∷ s)
     go true e h = rw (eqb-true c 35 e) h
     go false e h = refl
 
@@ -97,7 +102,8 @@ module _ (v : Text) where
   place-run [] = refl
   place-run (c ∷ s) = go (c == 34) refl (place-run s)
     where
-      go : (b : Bool) → (c == 34) ≡ b → ending_at ending s ≡ ending_at ending (after_run unquoted s) → ending_at ending (c ∷ s) ≡ ending_at ending (cond (not b) (after_run unquoted s) (c ∷ s))
+      go : (b : Bool) → (c == 34) ≡ b → ending_at ending s ≡ ending_at ending (after_run unquoted s)
+          → ending_at ending (c ∷ s) ≡ ending_at ending (cond (not b) (after_run unquoted s) (c ∷ s))
       go true e h = refl
       go false e h = rw e h
 

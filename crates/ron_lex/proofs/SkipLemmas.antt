@@ -35,7 +35,8 @@ module _ {C : Reader Text} {give : ℕ → Text} {e : Reader Text} {E : Lang Tex
   skip_turns s u rest a here m f =
       let joined : u ≡ run_of plain u ++ rest = run_joined plain u ∙ ap (λ x. run_of plain u ++ x) (sym f) in
       let given : Text = flat_map give (run_of plain u) in
-      sym (ap left_by (content_turns z s s u (run_of plain u) given rest [] (a ++ given) a refl (stays (C s)) here m f joined refl) ∙ left-meant (C rest) (a ++ given))
+      sym (ap left_by (content_turns z s s u (run_of plain u) given rest [] (a ++ given) a refl (stays (C s)) here m f joined refl)
+      ∙ left-meant (C rest) (a ++ given))
 
   pub skip_refused : (s : Text) → is_at 92 s ≡ true → escape_piece e s ≡ failed bad → left_by (C s) ≡ None
   skip_refused s here m = ap left_by (content_refused z s s [] (stays (C s)) here m)
@@ -47,7 +48,8 @@ module _ {C : Reader Text} {give : ℕ → Text} {e : Reader Text} {E : Lang Tex
   skip_unclosed s f g h = ap left_by (content_unclosed z s s [] (stays (C s)) f g h)
 
   -- the closing quote, or none
-  pub skip_ends : (s start : Text) (found : Option (Bor (List ℕ))) → begins plain s ≡ false → is_at 92 s ≡ false → left_by (C s) ≡ left_by (C start) → MatchOption found (is_at 34 s ≡ false) (λ rest. s ≡ 34 ∷ chars rest.now) → Leaves found (left_by (C start))
+  pub skip_ends : (s start : Text) (found : Option (Bor (List ℕ))) → begins plain s ≡ false → is_at 92 s ≡ false → left_by (C s) ≡ left_by (C start)
+      → MatchOption found (is_at 34 s ≡ false) (λ rest. s ≡ 34 ∷ chars rest.now) → Leaves found (left_by (C start))
   skip_ends s start None f g h m = sym h ∙ skip_unclosed s f g m
   skip_ends s start (Some rest) f g h m = sym h ∙ skip_closed s (chars rest.now) m
 

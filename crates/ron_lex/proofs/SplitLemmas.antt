@@ -1,5 +1,6 @@
 -- What is split from a text: behind a character, and where a call that is handed on has failed. For every `split_..` call.
-use Rattle.std.proofs.Common.{◌≡◌, ℕ, Bool, true, false, Option, Some, None, MatchOption, is_some, List, [], ◌∷◌, chars, ◌++◌, Result, Ok, Err, IfOk, IfErr, inl, inr, refl, ap, sym, ◌∙◌, eq-eqb}
+use Rattle.std.proofs.Common.{◌≡◌, ℕ, Bool, true, false, Option, Some, None, MatchOption, is_some, List, [], ◌∷◌, chars, ◌++◌, Result, Ok, Err, IfOk, IfErr}
+use Rattle.std.proofs.Common.{inl, inr, refl, ap, sym, ◌∙◌, eq-eqb}
 use Rattle.std.specs.Result.{IsErr, IsErrAnd}
 use denote.Ref.{Bor}
 use Rattle.ron_spec_words.specs.Runs.{is_at}
@@ -25,11 +26,13 @@ behind_char c r s t e = rw (e, eq-eqb c c refl) refl
 
 -- ---- a call that is handed on by `?`
 
-pub failed_exit : {V A : Type 0} (view : V → A) (Q : QuotedError → Type 0) (r : Result (V × Bor (List ℕ)) QuotedError) (answer : Got A) → IsErrAnd r Q → answer ≡ failed bad → SplitsBy view r answer
+pub failed_exit : {V A : Type 0} (view : V → A) (Q : QuotedError → Type 0) (r : Result (V × Bor (List ℕ)) QuotedError) (answer : Got A) → IsErrAnd r Q
+    → answer ≡ failed bad → SplitsBy view r answer
 failed_exit view Q (Ok p) answer h e = absurd h
 failed_exit view Q (Err x) answer h e = e
 
-pub end_exit : {A : Type 0} (r : Result (A × Bor (List ℕ)) QuotedError) (d : QuotedError) (text : List ℕ) → IsErrAnd r (λ y. y ≡ d) → IsSuffix (chars d.rest.now) text → IfErr r (λ e. IsSuffix (chars e.rest.now) text)
+pub end_exit : {A : Type 0} (r : Result (A × Bor (List ℕ)) QuotedError) (d : QuotedError) (text : List ℕ) → IsErrAnd r (λ y. y ≡ d)
+    → IsSuffix (chars d.rest.now) text → IfErr r (λ e. IsSuffix (chars e.rest.now) text)
 end_exit (Ok p) d text h k = absurd h
 end_exit (Err x) d text h k = rw h k
 
@@ -42,7 +45,8 @@ pub end_past_two : (c d : ℕ) (s t rest : List ℕ) → s ≡ c ∷ d ∷ t →
 end_past_two c d s t rest e h = record { front = c ∷ d ∷ h.front; is = e ∙ ap (λ x. c ∷ d ∷ x) h.is }
 
 -- where an error's stretch ends in what is left, it ends in the text
-pub errors_end : {V : Type 0} (r : Result V QuotedError) (t text : List ℕ) → ((u : List ℕ) → IsSuffix u t → IsSuffix u text) → IfErr r (λ e. IsSuffix (chars e.rest.now) t) → IfErr r (λ e. IsSuffix (chars e.rest.now) text)
+pub errors_end : {V : Type 0} (r : Result V QuotedError) (t text : List ℕ) → ((u : List ℕ) → IsSuffix u t → IsSuffix u text)
+    → IfErr r (λ e. IsSuffix (chars e.rest.now) t) → IfErr r (λ e. IsSuffix (chars e.rest.now) text)
 errors_end (Ok v) t text f h = tt
 errors_end (Err x) t text f h = f (chars x.rest.now) h
 
@@ -56,11 +60,13 @@ raw_end = read_end raw Raw word_raw
 
 -- ---- options and tests
 
-pub stripped : (c : ℕ) (s : List ℕ) (o : Option (Bor (List ℕ))) → MatchOption o (is_at c s ≡ false) (λ rest. s ≡ c ∷ chars rest.now) → is_some o ≡ true → is_at c s ≡ true
+pub stripped : (c : ℕ) (s : List ℕ) (o : Option (Bor (List ℕ))) → MatchOption o (is_at c s ≡ false) (λ rest. s ≡ c ∷ chars rest.now) → is_some o ≡ true
+    → is_at c s ≡ true
 stripped c s None h e = absurd (cc)
 stripped c s (Some rest) h e = rw h (eq-eqb c c refl)
 
-pub not_stripped : (c : ℕ) (s : List ℕ) (o : Option (Bor (List ℕ))) → MatchOption o (is_at c s ≡ false) (λ rest. s ≡ c ∷ chars rest.now) → is_some o ≡ false → is_at c s ≡ false
+pub not_stripped : (c : ℕ) (s : List ℕ) (o : Option (Bor (List ℕ))) → MatchOption o (is_at c s ≡ false) (λ rest. s ≡ c ∷ chars rest.now) → is_some o ≡ false
+    → is_at c s ≡ false
 not_stripped c s None h e = h
 not_stripped c s (Some rest) h e = absurd (cc)
 
@@ -69,11 +75,13 @@ both b e f = let k : true ≡ false = sym e ∙ f in cc
 
 -- ---- refusals of strings
 
-pub refused_end : {V : Type 0} (r : Result (V × Bor (List ℕ)) StringRefusal) (d : QuotedError) (text : List ℕ) → IsErrAnd r (λ y. y ≡ Refused d) → IsSuffix (chars d.rest.now) text → IfErr r (λ e. EndsIn e text)
+pub refused_end : {V : Type 0} (r : Result (V × Bor (List ℕ)) StringRefusal) (d : QuotedError) (text : List ℕ) → IsErrAnd r (λ y. y ≡ Refused d)
+    → IsSuffix (chars d.rest.now) text → IfErr r (λ e. EndsIn e text)
 refused_end (Ok p) d text h k = absurd h
 refused_end (Err x) d text h k = rw h k
 
-pub failed_refusal : {V A : Type 0} (view : V → A) (r : Result (V × Bor (List ℕ)) StringRefusal) (answer : Got A) → IsErr r → answer ≡ failed bad → SplitsOrMemory view r answer
+pub failed_refusal : {V A : Type 0} (view : V → A) (r : Result (V × Bor (List ℕ)) StringRefusal) (answer : Got A) → IsErr r → answer ≡ failed bad
+    → SplitsOrMemory view r answer
 failed_refusal view (Ok p) answer h e = absurd (cc)
 failed_refusal view (Err OutOfMemory) answer h e = tt
 failed_refusal view (Err (Refused x)) answer h e = e
@@ -92,7 +100,8 @@ end_behind c text content (Refused x) e h = end_past_char c text content (chars 
 
 -- ---- what is read is not empty
 
-pub read_proper : {A : Type 0} (r : Reader A) (c : ℕ) (L : Lang A) → IsWordReader r (Behind c L) → (s rest : List ℕ) (a : A) → r s ≡ got a rest → IsProperSuffix rest s
+pub read_proper : {A : Type 0} (r : Reader A) (c : ℕ) (L : Lang A) → IsWordReader r (Behind c L) → (s rest : List ℕ) (a : A) → r s ≡ got a rest
+    → IsProperSuffix rest s
 read_proper r c L h s rest a e =
     let y = h.sound s a rest e in
     record { first = c; front = y.spelled.rest; is = y.split ∙ ap (λ x. x ++ rest) y.spelled.split }
@@ -110,13 +119,15 @@ string_proper s rest a e = let y = word_string.sound s a rest e in go y.stretch 
     go t k (inl z) = record { first = 34; front = z.rest; is = k ∙ ap (λ x. x ++ rest) z.split }
     go t k (inr z) = record { first = 114; front = z.rest; is = k ∙ ap (λ x. x ++ rest) z.split }
 
-pub string_past : {V : Type 0} (view : V → List ℕ) (r : Result (V × Bor (List ℕ)) StringRefusal) (s : List ℕ) → SplitsOrMemory view r (string s) → IfOk r (λ p. IsProperSuffix (chars p.1.now) s)
+pub string_past : {V : Type 0} (view : V → List ℕ) (r : Result (V × Bor (List ℕ)) StringRefusal) (s : List ℕ) → SplitsOrMemory view r (string s)
+    → IfOk r (λ p. IsProperSuffix (chars p.1.now) s)
 string_past view (Ok p) s e = string_proper s (chars p.1.now) (view p.0) e
 string_past view (Err x) s e = tt
 
 pub byte_string_proper : (s rest a : List ℕ) → byte_string s ≡ got a rest → IsProperSuffix rest s
 byte_string_proper s rest a e = read_proper byte_string 98 _ word_byte_string s rest a e
 
-pub byte_string_past : {V : Type 0} (view : V → List ℕ) (r : Result (V × Bor (List ℕ)) StringRefusal) (s : List ℕ) → SplitsOrMemory view r (byte_string s) → IfOk r (λ p. IsProperSuffix (chars p.1.now) s)
+pub byte_string_past : {V : Type 0} (view : V → List ℕ) (r : Result (V × Bor (List ℕ)) StringRefusal) (s : List ℕ) → SplitsOrMemory view r (byte_string s)
+    → IfOk r (λ p. IsProperSuffix (chars p.1.now) s)
 byte_string_past view (Ok p) s e = byte_string_proper s (chars p.1.now) (view p.0) e
 byte_string_past view (Err x) s e = tt

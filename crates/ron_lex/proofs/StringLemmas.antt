@@ -1,6 +1,7 @@
 -- Strings and byte strings piece by piece: plain characters, what a backslash begins, and the closing quote.
 use Rattle.std.specs.Prelude.{◌==◌}
-use Rattle.std.proofs.Common.{◌≡◌, ℕ, ◌<◌, Bool, true, false, not, ◌||◌, cond, length, List, [], ◌∷◌, ◌++◌, codes, chars, IsUtf8, encode_utf8, encode_utf8_all, ◌&&◌, flat_map, refl, sym, ap, ◌∙◌, arith, append_assoc, append-nil, length-append, eqb-true}
+use Rattle.std.proofs.Common.{◌≡◌, ℕ, ◌<◌, Bool, true, false, not, ◌||◌, cond, length, List, [], ◌∷◌, ◌++◌, codes, chars, IsUtf8, encode_utf8, encode_utf8_all}
+use Rattle.std.proofs.Common.{◌&&◌, flat_map, refl, sym, ap, ◌∙◌, arith, append_assoc, append-nil, length-append, eqb-true}
 use Rattle.std.proofs.lemmas.Bool.{or_parts}
 use Rattle.std.proofs.lemmas.Str.{encodes-chars}
 use Rattle.ron_spec_words.specs.Characters.{Text}
@@ -8,7 +9,8 @@ use Rattle.ron_spec_words.specs.Runs.{begins, is_at, begins_with, run_of, after_
 use Rattle.ron_spec_words.specs.Lang.{Lang}
 use Rattle.ron_spec_words.specs.Reader.{bad, deep, Got, got, failed, Reader, meant}
 use Rattle.ron_spec_words.specs.Exact.{IsWordReader}
-use Rattle.ron_spec_words.specs.Quoted.{Pieces, close, piece, append, pieces, string_piece, StringPiece, itself, quoted_string, string, quoted_bytes, byte_string, raw, utf8}
+use Rattle.ron_spec_words.specs.Quoted.{Pieces, close, piece, append, pieces, string_piece, StringPiece, itself, quoted_string, string, quoted_bytes}
+use Rattle.ron_spec_words.specs.Quoted.{byte_string, raw, utf8}
 use Rattle.ron_spec_words.proofs.Escapes.{AllEscaped, is_mark}
 use Rattle.ron_spec_words.proofs.Quotes.{IsPieceReader, piece_reader, word_pieces}
 use Rattle.ron_spec_words.proofs.PieceSteps.{IsPlain, pieces-more, pieces-run, pieces-fault, meant-twice}
@@ -66,7 +68,8 @@ module _ (give : ℕ → Text) (e : Reader Text) (E : Lang Text) (h : AllEscaped
       ∙ ap (λ x. meant (P rest) (append (flat_map give x))) (sym same)
 
   -- what a backslash begins, and the plain characters behind it
-  from_backslash : (start s u front rest so_far a : Text) → P start ≡ meant (P s) (append so_far) → is_at 92 s ≡ true → escape_piece e s ≡ got a u → rest ≡ after_run plain u → u ≡ front ++ rest → P start ≡ meant (P rest) (append (so_far ++ (a ++ flat_map give front)))
+  from_backslash : (start s u front rest so_far a : Text) → P start ≡ meant (P s) (append so_far) → is_at 92 s ≡ true → escape_piece e s ≡ got a u
+      → rest ≡ after_run plain u → u ≡ front ++ rest → P start ≡ meant (P rest) (append (so_far ++ (a ++ flat_map give front)))
   from_backslash start s u front rest so_far a f g m n o =
       pieces-more (string_piece give e) (StringPiece give E) reader start s a u so_far f (no_quote s g) (backslash s g ∙ m)
       ∙ ap (λ x. meant x (append (so_far ++ a))) (from_front u front rest n o)
@@ -74,13 +77,15 @@ module _ (give : ℕ → Text) (e : Reader Text) (E : Lang Text) (h : AllEscaped
       ∙ ap (λ x. meant (P rest) (append x)) (append_assoc so_far a (flat_map give front))
 
   refused_piece : (start s so_far : Text) → P start ≡ meant (P s) (append so_far) → is_at 92 s ≡ true → escape_piece e s ≡ failed bad → P start ≡ failed bad
-  refused_piece start s so_far f g m = f ∙ ap (λ x. meant x (append so_far)) (pieces-fault (string_piece give e) (StringPiece give E) reader s bad (no_quote s g) (backslash s g ∙ m))
+  refused_piece start s so_far f g m =
+      f ∙ ap (λ x. meant x (append so_far)) (pieces-fault (string_piece give e) (StringPiece give E) reader s bad (no_quote s g) (backslash s g ∙ m))
 
   -- the closing quote
   closed : (start s behind so_far : Text) → P start ≡ meant (P s) (append so_far) → s ≡ 34 ∷ behind → P start ≡ got so_far behind
   closed start s behind so_far f g = f ∙ ap (λ x. meant (P x) (append so_far)) g ∙ ap (λ x. got x behind) (append-nil so_far)
 
-  unclosed : (start s so_far : Text) → P start ≡ meant (P s) (append so_far) → begins plain s ≡ false → is_at 92 s ≡ false → is_at 34 s ≡ false → P start ≡ failed bad
+  unclosed : (start s so_far : Text) → P start ≡ meant (P s) (append so_far) → begins plain s ≡ false → is_at 92 s ≡ false → is_at 34 s ≡ false
+      → P start ≡ failed bad
   unclosed start s so_far f g m n = f ∙ ap (λ x. meant (P x) (append so_far)) (nothing_left s g m n)
 
   -- ---- a text without a quote
@@ -89,7 +94,8 @@ module _ (give : ℕ → Text) (e : Reader Text) (E : Lang Text) (h : AllEscaped
   quote_stays [] s f = f
   quote_stays (c ∷ t) s f = go (c == 34) (quote_stays t s f)
     where
-      go : (b : Bool) → is_ended (after_run (in_class Unquoted) (t ++ s)) ≡ false → is_ended (cond (not b) (after_run (in_class Unquoted) (t ++ s)) (c ∷ (t ++ s))) ≡ false
+      go : (b : Bool) → is_ended (after_run (in_class Unquoted) (t ++ s)) ≡ false
+          → is_ended (cond (not b) (after_run (in_class Unquoted) (t ++ s)) (c ∷ (t ++ s))) ≡ false
       go true m = refl
       go false m = m
 
@@ -115,7 +121,8 @@ pub no_quote_behind : (s rest : Text) → rest ≡ after_run plain s → after_r
 no_quote_behind [] rest e = rw e refl
 no_quote_behind (c ∷ s) rest e = go (c == 34) (c == 92) refl refl (λ f. no_quote_behind s rest f) e
   where
-    go : (a b : Bool) → (c == 34) ≡ a → (c == 92) ≡ b → (rest ≡ after_run plain s → after_run (in_class Unquoted) s ≡ after_run (in_class Unquoted) rest) → rest ≡ cond (not (a || b)) (after_run plain s) (c ∷ s) → after_run (in_class Unquoted) (c ∷ s) ≡ after_run (in_class Unquoted) rest
+    go : (a b : Bool) → (c == 34) ≡ a → (c == 92) ≡ b → (rest ≡ after_run plain s → after_run (in_class Unquoted) s ≡ after_run (in_class Unquoted) rest)
+        → rest ≡ cond (not (a || b)) (after_run plain s) (c ∷ s) → after_run (in_class Unquoted) (c ∷ s) ≡ after_run (in_class Unquoted) rest
     go true b f g ih k = rw k refl
     go false true f g ih k = rw k refl
     go false false f g ih k = rw f (ih k)
@@ -127,13 +134,16 @@ module _ {C : Reader Text} {give : ℕ → Text} {e : Reader Text} {E : Lang Tex
   content_reader = piece_reader give z.escaped z.is_word
 
   -- the plain characters at the start
-  pub content_starts : (s front given rest content old : Text) → given ≡ flat_map give front → rest ≡ after_run plain s → s ≡ front ++ rest → content ≡ old ++ ([] ++ given) → old ≡ [] → C s ≡ meant (C rest) (append content)
+  pub content_starts : (s front given rest content old : Text) → given ≡ flat_map give front → rest ≡ after_run plain s → s ≡ front ++ rest
+      → content ≡ old ++ ([] ++ given) → old ≡ [] → C s ≡ meant (C rest) (append content)
   content_starts s front given rest content old w f g m n =
       let whole : content ≡ flat_map give front = m ∙ ap (λ x. x ++ given) n ∙ w in
       rw (z.pieces_are, whole) (from_front give e E z.escaped z.is_word s front rest f g)
 
   -- what a backslash begins, and the plain characters behind it
-  pub content_turns : (start s u front given rest so_far content a : Text) → given ≡ flat_map give front → C start ≡ meant (C s) (append so_far) → is_at 92 s ≡ true → escape_piece e s ≡ got a u → rest ≡ after_run plain u → u ≡ front ++ rest → content ≡ so_far ++ (a ++ given) → C start ≡ meant (C rest) (append content)
+  pub content_turns : (start s u front given rest so_far content a : Text) → given ≡ flat_map give front → C start ≡ meant (C s) (append so_far)
+      → is_at 92 s ≡ true → escape_piece e s ≡ got a u → rest ≡ after_run plain u → u ≡ front ++ rest → content ≡ so_far ++ (a ++ given)
+      → C start ≡ meant (C rest) (append content)
   content_turns start s u front given rest so_far content a w f g m n o k =
       let whole : content ≡ so_far ++ (a ++ flat_map give front) = k ∙ ap (λ x. so_far ++ (a ++ x)) w in
       rw (z.pieces_are, whole) (from_backslash give e E z.escaped z.is_word start s u front rest so_far a (rw z.pieces_are at f) g m n o)
@@ -146,18 +156,21 @@ module _ {C : Reader Text} {give : ℕ → Text} {e : Reader Text} {E : Lang Tex
       let y = content_reader.is_word.sound s a u (rw g m) in
       omega (arith, content_reader.some_length y.stretch u a y.spelled, ap length y.split, length-append y.stretch u)
 
-  pub content_refused : (start s so_far : Text) → C start ≡ meant (C s) (append so_far) → is_at 92 s ≡ true → escape_piece e s ≡ failed bad → C start ≡ failed bad
+  pub content_refused : (start s so_far : Text) → C start ≡ meant (C s) (append so_far) → is_at 92 s ≡ true → escape_piece e s ≡ failed bad
+      → C start ≡ failed bad
   content_refused start s so_far f g m = rw z.pieces_are (refused_piece give e E z.escaped z.is_word start s so_far (rw z.pieces_are at f) g m)
 
   -- the closing quote
   pub content_closed : (start s behind so_far : Text) → C start ≡ meant (C s) (append so_far) → s ≡ 34 ∷ behind → C start ≡ got so_far behind
   content_closed start s behind so_far f g = rw z.pieces_are (closed give e E z.escaped z.is_word start s behind so_far (rw z.pieces_are at f) g)
 
-  pub content_unclosed : (start s so_far : Text) → C start ≡ meant (C s) (append so_far) → begins plain s ≡ false → is_at 92 s ≡ false → is_at 34 s ≡ false → C start ≡ failed bad
+  pub content_unclosed : (start s so_far : Text) → C start ≡ meant (C s) (append so_far) → begins plain s ≡ false → is_at 92 s ≡ false → is_at 34 s ≡ false
+      → C start ≡ failed bad
   content_unclosed start s so_far f g m n = rw z.pieces_are (unclosed give e E z.escaped z.is_word start s so_far (rw z.pieces_are at f) g m n)
 
   -- where no escape stands
-  pub content_plain : (s front given rest behind : Text) → given ≡ flat_map give front → rest ≡ after_run plain s → s ≡ front ++ rest → rest ≡ 34 ∷ behind → C s ≡ got given behind
+  pub content_plain : (s front given rest behind : Text) → given ≡ flat_map give front → rest ≡ after_run plain s → s ≡ front ++ rest → rest ≡ 34 ∷ behind
+      → C s ≡ got given behind
   content_plain s front given rest behind w f g m = content_closed s rest behind given (content_starts s front given rest given [] w f g refl refl) m
 
   -- where no quote stands
@@ -197,7 +210,8 @@ unfolding byte_string quoted_bytes bytes_content
 byte_string_quoted s content e = rw e refl
 
 -- a raw one gives the UTF-8 of its text
-pub byte_string_raw : (s marked rest : Text) (bytes : List ℕ) → IsUtf8 bytes → s ≡ 98 ∷ 114 ∷ marked → raw marked ≡ got (chars bytes) rest → byte_string s ≡ got bytes rest
+pub byte_string_raw : (s marked rest : Text) (bytes : List ℕ) → IsUtf8 bytes → s ≡ 98 ∷ 114 ∷ marked → raw marked ≡ got (chars bytes) rest
+    → byte_string s ≡ got bytes rest
 unfolding byte_string
 byte_string_raw s marked rest bytes u e f = rw e (ap (λ o. meant o utf8) f ∙ ap (λ x. got x rest) (encodes-chars bytes u))
 
@@ -215,14 +229,16 @@ byte_string_none (c ∷ []) e f = same (c == 98)
     same false = refl
 byte_string_none (c ∷ d ∷ s) e f = go (c == 98) (d == 34) (d == 114) (quoted_bytes (d ∷ s)) (meant (raw s) utf8) e f
   where
-    go : (a b r : Bool) (o g : Got Text) → (a && (b && true)) ≡ false → (a && (r && true)) ≡ false → cond a (cond b o (cond r g (failed bad))) (failed bad) ≡ failed bad
+    go : (a b r : Bool) (o g : Got Text) → (a && (b && true)) ≡ false → (a && (r && true)) ≡ false
+        → cond a (cond b o (cond r g (failed bad))) (failed bad) ≡ failed bad
     go true true r o g h k = absurd (cc)
     go true false true o g h k = absurd (cc)
     go true false false o g h k = refl
     go false b r o g h k = refl
 
 -- a quote stands somewhere, and none behind the plain characters: there stands a backslash
-pub quote_or_escape : (s rest : Text) → rest ≡ after_run plain s → is_at 34 rest ≡ false → is_ended (after_run (in_class Unquoted) rest) ≡ false → opens_escape s ≡ true
+pub quote_or_escape : (s rest : Text) → rest ≡ after_run plain s → is_at 34 rest ≡ false → is_ended (after_run (in_class Unquoted) rest) ≡ false
+    → opens_escape s ≡ true
 quote_or_escape s rest e f g = ap (is_at 92) (sym e) ∙ at_backslash rest (ap (begins plain) e ∙ after-run plain s) f (not_ended rest g)
   where
     not_ended : (u : Text) → is_ended (after_run (in_class Unquoted) u) ≡ false → is_ended u ≡ false

@@ -1,5 +1,6 @@
 -- The longest token, by what begins there: for `token.rt` and the lookahead over tokens.
-use Rattle.std.proofs.Common.{◌≡◌, ◌==◌, ℕ, zero, suc, ◌+◌, ◌-◌, ◌<◌, true, false, not, ◌||◌, lt-ltb, length, List, [], ◌∷◌, ◌++◌, Option, Some, None, refl, sym, ap, ◌∙◌, arith, length-append, chars, IfSome}
+use Rattle.std.proofs.Common.{◌≡◌, ◌==◌, ℕ, zero, suc, ◌+◌, ◌-◌, ◌<◌, true, false, not, ◌||◌, lt-ltb, length, List, [], ◌∷◌, ◌++◌, Option, Some, None, refl}
+use Rattle.std.proofs.Common.{sym, ap, ◌∙◌, arith, length-append, chars, IfSome}
 use Rattle.std.proofs.lemmas.Bool.{le-ltb, not-true, or_parts}
 use Rattle.ron_spec_words.specs.Characters.{Text, is_blank, slash}
 use Rattle.ron_spec_words.specs.Runs.{begins, is_at}
@@ -28,20 +29,24 @@ pub token_string : (s : Text) → (opens_with Blank s || is_at slash s) ≡ fals
 unfolding token
 token_string s e g = let f = gap_begins s ∙ e in rw (f, g) refl
 
-pub token_bytes : (s : Text) → (opens_with Blank s || is_at slash s) ≡ false → opens_string s ≡ false → opens_byte_string s ≡ true → token s ≡ left_by (byte_string s)
+pub token_bytes : (s : Text) → (opens_with Blank s || is_at slash s) ≡ false → opens_string s ≡ false → opens_byte_string s ≡ true
+    → token s ≡ left_by (byte_string s)
 unfolding token
 token_bytes s e g h = let f = gap_begins s ∙ e in rw (f, g, h) refl
 
-pub token_char : (s : Text) → (opens_with Blank s || is_at slash s) ≡ false → opens_string s ≡ false → opens_byte_string s ≡ false → is_at 39 s ≡ true → token s ≡ left_by (char s)
+pub token_char : (s : Text) → (opens_with Blank s || is_at slash s) ≡ false → opens_string s ≡ false → opens_byte_string s ≡ false → is_at 39 s ≡ true
+    → token s ≡ left_by (char s)
 unfolding token
 token_char s e g h k = let f = gap_begins s ∙ e in rw (f, g, h, k) refl
 
-pub token_other : (s : Text) → (opens_with Blank s || is_at slash s) ≡ false → opens_string s ≡ false → opens_byte_string s ≡ false → is_at 39 s ≡ false → token s ≡ past_literal s
+pub token_other : (s : Text) → (opens_with Blank s || is_at slash s) ≡ false → opens_string s ≡ false → opens_byte_string s ≡ false → is_at 39 s ≡ false
+    → token s ≡ past_literal s
 unfolding token
 token_other s e g h k = let f = gap_begins s ∙ e in rw (f, g, h, k) refl
 
 -- a plain character begins none of these
-plain_parts : (c : ℕ) → is_plain c ≡ true → (is_blank c ≡ false) × ((c == slash) ≡ false) × ((c == 34) ≡ false) × ((c == 39) ≡ false) × ((c == 98) ≡ false) × ((c == 114) ≡ false)
+plain_parts : (c : ℕ) → is_plain c ≡ true
+    → (is_blank c ≡ false) × ((c == slash) ≡ false) × ((c == 34) ≡ false) × ((c == 39) ≡ false) × ((c == 98) ≡ false) × ((c == 114) ≡ false)
 plain_parts c e =
     let a = or_parts (is_blank c) _ (not-true _ e) in
     let b = or_parts (c == slash) _ a.1 in
@@ -98,7 +103,8 @@ pub token_leaves : (s : Text) {o : Option Text} (found : Option (Bor (List ℕ))
 token_leaves s None e h = e ∙ h
 token_leaves s (Some rest) e h = e ∙ h
 
-pub token_proper : (s : Text) {o : Option Text} (found : Option (Bor (List ℕ))) → token s ≡ o → Leaves found o → IfSome found (λ rest. IsProperSuffix (chars rest.now) s)
+pub token_proper : (s : Text) {o : Option Text} (found : Option (Bor (List ℕ))) → token s ≡ o → Leaves found o
+    → IfSome found (λ rest. IsProperSuffix (chars rest.now) s)
 token_proper s None e h = tt
 token_proper s (Some rest) e h = token_past s (chars rest.now) (e ∙ h)
 

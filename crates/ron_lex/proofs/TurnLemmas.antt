@@ -13,7 +13,8 @@ use Rattle.ron_lex_text.specs.Stretch.{IsSuffix}
 use Rattle.ron_lex_text.proofs.StretchLemmas.{end_whole, end_of_end, end_nothing, end_past_char, run_end}
 use Rattle.ron_lex.specs.Identifier.{raw_name_behind_mark}
 use Rattle.ron_lex.specs.Place.{Place}
-use Rattle.ron_lex.specs.Turns.{most_turns, passed, count_at, Counts, Grows, CountsPast, LooksPast, GoesOver, Scans, Looks, Moves, IsLook, IsBehindWords, IsGapLook, behind_hashes}
+use Rattle.ron_lex.specs.Turns.{most_turns, passed, count_at, Counts, Grows, CountsPast, LooksPast, GoesOver, Scans, Looks, Moves, IsLook, IsBehindWords}
+use Rattle.ron_lex.specs.Turns.{IsGapLook, behind_hashes}
 use Rattle.ron_lex.proofs.GapLemmas.{gap_end}
 
 pub end_size : (rest text : Text) → IsSuffix rest text → bytes_in rest ≤ bytes_in text
@@ -29,18 +30,22 @@ min_twice : (a b most : ℕ) → min (min a most + b) most ≡ min (a + b) most
 min_twice a b most = omega arith
 
 -- of a later place
-pub count_on : (beside : ℕ) (text rest after : Text) → IsSuffix rest text → IsSuffix after rest → count_at beside text after + bytes_in after ≤ count_at beside text rest + bytes_in rest
+pub count_on : (beside : ℕ) (text rest after : Text) → IsSuffix rest text → IsSuffix after rest
+    → count_at beside text after + bytes_in after ≤ count_at beside text rest + bytes_in rest
 count_on beside text rest after h k = omega (arith, end_size rest text h, end_size after rest k)
 
-pub count_forward : (beside : ℕ) (text rest after : Text) → IsSuffix rest text → IsSuffix after rest → count_at beside text after ≡ min (count_at beside text rest + passed rest after) most_turns
+pub count_forward : (beside : ℕ) (text rest after : Text) → IsSuffix rest text → IsSuffix after rest
+    → count_at beside text after ≡ min (count_at beside text rest + passed rest after) most_turns
 count_forward beside text rest after h k =
     let sum : beside + passed text rest + passed rest after ≡ beside + passed text after = omega (arith, end_size rest text h, end_size after rest k) in
     sym (min_twice _ _ most_turns ∙ ap (λ n. min n most_turns) sum)
 
 -- of an earlier one, where the bytes up to the later one are added
-pub count_back : (beside new : ℕ) (text rest earlier : Text) → bytes_in rest ≤ bytes_in earlier → bytes_in earlier ≤ bytes_in text → new ≡ min (beside + (bytes_in earlier - bytes_in rest)) most_turns → count_at new text earlier ≡ count_at beside text rest
+pub count_back : (beside new : ℕ) (text rest earlier : Text) → bytes_in rest ≤ bytes_in earlier → bytes_in earlier ≤ bytes_in text
+    → new ≡ min (beside + (bytes_in earlier - bytes_in rest)) most_turns → count_at new text earlier ≡ count_at beside text rest
 count_back beside new text rest earlier h k e =
-    let sum : beside + (bytes_in earlier - bytes_in rest) + (bytes_in text - bytes_in earlier) ≡ beside + (bytes_in text - bytes_in rest) = omega (arith, h, k) in
+    let sum : beside + (bytes_in earlier - bytes_in rest) + (bytes_in text - bytes_in earlier) ≡ beside + (bytes_in text - bytes_in rest) =
+    omega (arith, h, k) in
     ap (λ n. count_at n text earlier) e ∙ min_twice _ _ most_turns ∙ ap (λ n. min n most_turns) sum
 
 -- ---- steps
@@ -63,7 +68,8 @@ moved_ok c old new a h = record { moved = h; most = over_all c old new h }
 pub moved_as : {A B E F : Type 0} (c : ℕ) (old new : Place) (a : A) (b : B) → Moves {A = A} {E = E} c old (Ok a) new → Moves {A = B} {E = F} c old (Ok b) new
 moved_as c old new a b h = record { moved = h.moved; most = h.most }
 
-pub refused_as : {A B E F : Type 0} (c : ℕ) (old new : Place) (e : E) (f : F) → Moves {A = A} {E = E} c old (Err e) new → Moves {A = B} {E = F} c old (Err f) new
+pub refused_as : {A B E F : Type 0} (c : ℕ) (old new : Place) (e : E) (f : F) → Moves {A = A} {E = E} c old (Err e) new
+    → Moves {A = B} {E = F} c old (Err f) new
 refused_as c old new e f h = record { moved = tt; most = h.most }
 
 -- ---- what is counted at least
@@ -73,7 +79,8 @@ pub grows_on : (old mid new : Place) → Grows old mid → Grows mid new → Gro
 grows_on old mid new h k = omega (arith, h, k)
 
 -- a look up to an end that stands no further than behind a gap
-pub counted_past : (rest end : Text) (old new : Place) → new.counted ≡ min (old.counted + passed old.rest end) most_turns → end ≡ past_words rest → Counts (passed old.rest (skip rest)) old new
+pub counted_past : (rest end : Text) (old new : Place) → new.counted ≡ min (old.counted + passed old.rest end) most_turns → end ≡ past_words rest
+    → Counts (passed old.rest (skip rest)) old new
 unfolding past_words
 counted_past rest end old new e h = omega (arith, e, ap bytes_in h, go (is_at 47 (skip rest)))
   where
@@ -86,7 +93,8 @@ pub past_gap_look : (s behind end : Text) → behind ≡ skip s → end ≡ cond
 unfolding past_words
 past_gap_look s behind end e f = f ∙ ap (λ b. cond (is_at 47 b) [] b) e
 
-pub looked_past : {A : Type 0} (g : Got A) (old new : Place) (end : Text) → new.counted ≡ min (old.counted + passed old.rest end) most_turns → LooksPast g end → CountsPast g old new
+pub looked_past : {A : Type 0} (g : Got A) (old new : Place) (end : Text) → new.counted ≡ min (old.counted + passed old.rest end) most_turns → LooksPast g end
+    → CountsPast g old new
 looked_past (got a rest) old new end e h = counted_past rest end old new e h
 looked_past (failed f) old new end e h = tt
 
@@ -140,7 +148,9 @@ behind_raw (c ∷ d ∷ f ∷ s) name rest e h = go (c == 114) refl (d == 35) re
     whole : Text
     whole = c ∷ d ∷ f ∷ s
 
-    go : (x : Bool) → (c == 114) ≡ x → (y : Bool) → (d == 35) ≡ y → (z : Bool) → in_raw_name f ≡ z → cond x (cond y (cond z (got (f ∷ run_of in_raw_name s) (after_run in_raw_name s)) (failed bad)) (failed bad)) (failed bad) ≡ got name rest → IsBehindWords whole rest
+    go : (x : Bool) → (c == 114) ≡ x → (y : Bool) → (d == 35) ≡ y → (z : Bool) → in_raw_name f ≡ z
+        → cond x (cond y (cond z (got (f ∷ run_of in_raw_name s) (after_run in_raw_name s)) (failed bad)) (failed bad)) (failed bad) ≡ got name rest
+        → IsBehindWords whole rest
     go true p true q true r k =
         let opens : opens_raw_name whole ≡ true = rw (p, q, r) refl in
         let is : after_run in_raw_name s ≡ rest = cc in
@@ -161,7 +171,8 @@ run_hash_end s = run_end is_hash s (after_run is_hash s) refl
 
 hashes_end : (s : Text) → IsSuffix (behind_hashes s) s
 hashes_end [] = end_whole []
-hashes_end (c ∷ s) = elim (c == 114) as (λ b. IsSuffix (cond b (after_run is_hash s) (c ∷ s)) (c ∷ s)) [ true ↦ end_past_char c (c ∷ s) s _ refl (run_hash_end s) | false ↦ end_whole (c ∷ s) ]
+hashes_end (c ∷ s) = elim (c == 114)
+    as (λ b. IsSuffix (cond b (after_run is_hash s) (c ∷ s)) (c ∷ s)) [ true ↦ end_past_char c (c ∷ s) s _ refl (run_hash_end s) | false ↦ end_whole (c ∷ s) ]
 
 pub hashes_look : (s end : Text) → end ≡ behind_hashes s → IsLook s end
 hashes_look s end e = rw e (record { is_end = hashes_end s; within = within s })

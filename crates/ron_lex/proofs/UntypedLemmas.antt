@@ -1,6 +1,7 @@
 -- Names and integers where no type is given, by the form that stands there: for the calls of `untyped.rt`.
 use Rattle.std.specs.Prelude.{◌==◌}
-use Rattle.std.proofs.Common.{◌≡◌, ℕ, suc, ltb-true, lt-ltb, ◌<◌, arith, Bool, ◌||◌, true, false, nat_lt, cond, length, [], ◌∷◌, ◌++◌, codes, Some, None, refl, ap, ◌∙◌}
+use Rattle.std.proofs.Common.{◌≡◌, ℕ, suc, ltb-true, lt-ltb, ◌<◌, arith, Bool, ◌||◌, true, false, nat_lt, cond, length, [], ◌∷◌, ◌++◌, codes, Some, None, refl}
+use Rattle.std.proofs.Common.{ap, ◌∙◌}
 use Rattle.std.proofs.Math.Bool.{and-false}
 use Rattle.std.specs.List.{list_any}
 use Rattle.std.specs.Cmp.{both_ways}
@@ -24,18 +25,24 @@ pub untyped_literal : (s : Text) → begins_with (codes "r#") s ≡ false → op
 unfolding untyped_name
 untyped_literal s e l = let m = rw e at l in rw (e, m) refl
 
-pub untyped_plain : (s : Text) → begins_with (codes "r#") s ≡ false → opens_literal s ≡ false → untyped_name s ≡ meant (run starts_name continues_name s) if_no_value_word
+pub untyped_plain : (s : Text) → begins_with (codes "r#") s ≡ false → opens_literal s ≡ false
+    → untyped_name s ≡ meant (run starts_name continues_name s) if_no_value_word
 unfolding untyped_name
 untyped_plain s e l = let m = rw e at l in rw (e, m) refl
 
-pub untyped_refused : (s : Text) → begins_with (codes "r#") s ≡ false → opens_literal s ≡ false → run starts_name continues_name s ≡ failed bad → untyped_name s ≡ failed bad
+pub untyped_refused : (s : Text) → begins_with (codes "r#") s ≡ false → opens_literal s ≡ false → run starts_name continues_name s ≡ failed bad
+    → untyped_name s ≡ failed bad
 untyped_refused s e l f = untyped_plain s e l ∙ ap (λ o. meant o if_no_value_word) f
 
-pub untyped_word : (s n rest : Text) → begins_with (codes "r#") s ≡ false → opens_literal s ≡ false → run starts_name continues_name s ≡ got n rest → list_any (same_text n) value_words ≡ true → untyped_name s ≡ failed bad
-untyped_word s n rest e l f w = untyped_plain s e l ∙ ap (λ o. meant o if_no_value_word) f ∙ ap (λ b. meant {A = Text} (got n rest) (λ _. cond b None (Some n))) w
+pub untyped_word : (s n rest : Text) → begins_with (codes "r#") s ≡ false → opens_literal s ≡ false → run starts_name continues_name s ≡ got n rest
+    → list_any (same_text n) value_words ≡ true → untyped_name s ≡ failed bad
+untyped_word s n rest e l f w =
+    untyped_plain s e l ∙ ap (λ o. meant o if_no_value_word) f ∙ ap (λ b. meant {A = Text} (got n rest) (λ _. cond b None (Some n))) w
 
-pub untyped_got : (s n rest : Text) → begins_with (codes "r#") s ≡ false → opens_literal s ≡ false → run starts_name continues_name s ≡ got n rest → list_any (same_text n) value_words ≡ false → untyped_name s ≡ got n rest
-untyped_got s n rest e l f w = untyped_plain s e l ∙ ap (λ o. meant o if_no_value_word) f ∙ ap (λ b. meant {A = Text} (got n rest) (λ _. cond b None (Some n))) w
+pub untyped_got : (s n rest : Text) → begins_with (codes "r#") s ≡ false → opens_literal s ≡ false → run starts_name continues_name s ≡ got n rest
+    → list_any (same_text n) value_words ≡ false → untyped_name s ≡ got n rest
+untyped_got s n rest e l f w =
+    untyped_plain s e l ∙ ap (λ o. meant o if_no_value_word) f ∙ ap (λ b. meant {A = Text} (got n rest) (λ _. cond b None (Some n))) w
 
 -- a run is not empty
 pub run_past : (s n rest : Text) → run starts_name continues_name s ≡ got n rest → s ≡ n ++ rest → IsProperSuffix rest s
@@ -74,7 +81,8 @@ less_than_more n = lt-ltb 0 (suc n) (let z : 0 < suc n = omega arith in z)
 -- no digit stands here, and a float's run goes on
 pub float_goes_on : (c : ℕ) (s t : Text) → s ≡ c ∷ t → begins_with (codes "..") s ≡ false → in_float c ≡ true → in_number c ≡ false → passes_digits s ≡ true
 float_goes_on c s t e d f n =
-    rw (e, n, f) (ap (λ b. nat_lt 0 (length (cond b [] (c ∷ before_dots (run_of in_float t))))) (no_dots c t (rw e at d)) ∙ less_than_more (length (before_dots (run_of in_float t))))
+    rw (e, n, f) (ap (λ b. nat_lt 0 (length (cond b [] (c ∷ before_dots (run_of in_float t))))) (no_dots c t (rw e at d))
+    ∙ less_than_more (length (before_dots (run_of in_float t))))
 
 -- ---- what an integer and a float may both hold
 
@@ -88,7 +96,8 @@ both_goes_on c s t e f = rw (e, f) refl
 
 pub raw_opens : (s : Text) → begins_with (codes "r#") s ≡ true → opens_literal s ≡ true
 raw_opens s e =
-    last (begins_with (codes "b\"") s) (begins_with (codes "b'") s) (begins_with (codes "br#") s) (begins_with (codes "br\"") s) (begins_with (codes "r\"") s) (begins_with (codes "r#") s) e
+    last (begins_with (codes "b\"") s) (begins_with (codes "b'") s) (begins_with (codes "br#") s) (begins_with (codes "br\"") s) (begins_with (codes "r\"") s)
+    (begins_with (codes "r#") s) e
   where
     last : (a b c d x y : Bool) → y ≡ true → ((a || b || c || d) || (x || y)) ≡ true
     last true b c d x y h = refl

@@ -20,7 +20,8 @@ word_there w s rest e f = rw (stands_there w s rest e f) (ap (got done) (ap (dro
 -- the suffix that stands there is read
 pub suffix_there : (x : Suffix) (s rest : Text) → s ≡ suffix_word x ++ rest → stands (suffix_word x) s ≡ true → opt_suffix s ≡ got (Some x) rest
 suffix_there x s rest e f =
-    let ends : begins continues_name rest ≡ false = ap (begins continues_name) (sym (ap (drop (length (suffix_word x))) e ∙ drop-append_seam (suffix_word x) rest)) ∙ (stands-splits (suffix_word x) s f).1 in
+    let ends : begins continues_name rest ≡ false =
+    ap (begins continues_name) (sym (ap (drop (length (suffix_word x))) e ∙ drop-append_seam (suffix_word x) rest)) ∙ (stands-splits (suffix_word x) s f).1 in
     ap opt_suffix e ∙ (word_suffix.complete (suffix_word x) rest (Some x) (record { same = refl; ends = ends; value = refl })).answer
 
 -- where none stands, none is read
@@ -46,4 +47,5 @@ no_suffix_begins s e f = no_suffix_there s (none s e f)
   where
     none : (s : Text) → is_at 105 s ≡ false → is_at 117 s ≡ false → (x : Suffix) → stands (suffix_word x) s ≡ false
     none [] e f = each_suffix (λ x. stands (suffix_word x) [] ≡ false) refl refl refl refl refl refl refl refl refl refl
-    none (c ∷ s) e f = each_suffix (λ x. stands (suffix_word x) (c ∷ s) ≡ false) (rw e refl) (rw e refl) (rw e refl) (rw e refl) (rw e refl) (rw f refl) (rw f refl) (rw f refl) (rw f refl) (rw f refl)
+    none (c ∷ s) e f = each_suffix (λ x. stands (suffix_word x) (c ∷ s) ≡ false) (rw e refl) (rw e refl) (rw e refl) (rw e refl) (rw e refl) (rw f refl)
+        (rw f refl) (rw f refl) (rw f refl) (rw f refl)

@@ -21,7 +21,8 @@ pub record IsBegun (s : Text) (begun : Begun) : Type 0 where
 
 -- a comma, a closing bracket, a colon or a blank, none of which an integer or a float holds
 abbrev pub is_behind_plain : ℕ → Bool
-is_behind_plain c = (c == comma) || ((c == right_parenthesis) || ((c == right_bracket) || ((c == right_brace) || ((c == colon) || ((c == space) || ((c == line_feed) || ((c == carriage_return) || (c == tab))))))))
+is_behind_plain c = (c == comma) || ((c == right_parenthesis)
+    || ((c == right_bracket) || ((c == right_brace) || ((c == colon) || ((c == space) || ((c == line_feed) || ((c == carriage_return) || (c == tab))))))))
 
 -- one of these stands here, or nothing
 abbrev pub ends_plain : Text → Bool

@@ -10,7 +10,8 @@ use Rattle.ron_spec_words.specs.Lang.{Lang}
 use Rattle.ron_spec_words.specs.Reader.{Got, got, failed, bad, Reader, fail, mark, run, means, pick}
 use Rattle.ron_spec_words.specs.Directly.{directly, any_one}
 use Rattle.ron_spec_words.specs.Escape.{hex_byte, hex_ascii, unicode_escape, escape, named_character, continuation}
-use Rattle.ron_spec_words.specs.Quoted.{pieces, string_piece, itself, string_escape, byte_string_escape, if_no_backslash, if_ascii_no_backslash, opens_continuation, holds_escape, BetweenQuotes}
+use Rattle.ron_spec_words.specs.Quoted.{pieces, string_piece, itself, string_escape, byte_string_escape, if_no_backslash, if_ascii_no_backslash}
+use Rattle.ron_spec_words.specs.Quoted.{opens_continuation, holds_escape, BetweenQuotes}
 use Rattle.ron_lex.specs.declared.fault.QuotedError.{QuotedError}
 use Rattle.ron_lex.specs.declared.fault.StringRefusal.{StringRefusal}
 use Rattle.ron_lex.specs.declared.fault.StringRefusal.TheVariants.{OutOfMemory, Refused}

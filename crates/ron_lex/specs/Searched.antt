@@ -7,11 +7,13 @@ use Rattle.ron_lex_text.specs.Stretch.{in_class}
 use Rattle.ron_lex.specs.Quoted.{ends_plainly}
 use Rattle.ron_lex.specs.Turns.{passed}
 
--- Behind the opening quote: what stands before the closing one, and once more what stands from the first backslash to the first quote. Of a slice, all of it once more: who keeps it compares it with the source, or copies it.
+-- Behind the opening quote: what stands before the closing one, and once more what stands from the first backslash to the first quote. Of a slice, all of it
+-- once more: who keeps it compares it with the source, or copies it.
 abbrev pub searched : Text → Text → ℕ
 searched content rest =
     passed content (double_quote ∷ rest)
-    + (if ends_plainly content then passed content (double_quote ∷ rest) else passed (after_run (in_class Plain) content) (after_run (in_class Unquoted) content))
+    +
+    (if ends_plainly content then passed content (double_quote ∷ rest) else passed (after_run (in_class Plain) content) (after_run (in_class Unquoted) content))
 
 -- the same of a string; a raw one twice, since it is a slice
 abbrev pub searched_string : Text → Text → ℕ

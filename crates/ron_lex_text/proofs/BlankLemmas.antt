@@ -1,5 +1,6 @@
 -- Blanks, of which the spaces are gone over by bytes: each is a byte, and a byte that is none begins another character.
-use Rattle.std.proofs.Common.{◌≡◌, ℕ, zero, suc, ◌+◌, ◌<◌, ◌≤◌, Bool, true, false, not, ◌&&◌, ◌==◌, cond, List, [], ◌∷◌, ◌++◌, length, get_or, take, drop, IsUtf8, Fits, w8, w32, refl, sym, ap, subst, ◌∙◌, arith, encode_utf8_all}
+use Rattle.std.proofs.Common.{◌≡◌, ℕ, zero, suc, ◌+◌, ◌<◌, ◌≤◌, Bool, true, false, not, ◌&&◌, ◌==◌, cond, List, [], ◌∷◌, ◌++◌, length, get_or, take, drop}
+use Rattle.std.proofs.Common.{IsUtf8, Fits, w8, w32, refl, sym, ap, subst, ◌∙◌, arith, encode_utf8_all}
 use Rattle.std.specs.Str.{chars}
 use Rattle.std.specs.Array.{IsFirstChunk}
 use Rattle.std.specs.Int.{from_le_bytes, to_le_bytes}
@@ -28,8 +29,10 @@ front_small (suc n) (x ∷ l) small zero = (small 0).fits
 front_small (suc n) (x ∷ l) small (suc i) = front_small n l (λ j. small (suc j)) i
 
 -- and from behind four, where their bytes are the number of four spaces
-pub four_pass : {hay bytes four : List ℕ} {n : ℕ} → hay ≡ bytes → IsUtf8 bytes → ((i : ℕ) → Fits w8 (get_or bytes i 0)) → IsFirstChunk hay four 4 → n ≡ from_le_bytes w32 four → n ≡ 0x20202020
-    → (4 ≤ length bytes) × IsUtf8 (drop 4 bytes) × ((i : ℕ) → Fits w8 (get_or (drop 4 bytes) i 0)) × (after_run is_space (chars (drop 4 bytes)) ≡ after_run is_space (chars bytes))
+pub four_pass : {hay bytes four : List ℕ} {n : ℕ} → hay ≡ bytes → IsUtf8 bytes → ((i : ℕ) → Fits w8 (get_or bytes i 0)) → IsFirstChunk hay four 4
+    → n ≡ from_le_bytes w32 four → n ≡ 0x20202020
+    → (4 ≤ length bytes) × IsUtf8 (drop 4 bytes) × ((i : ℕ) → Fits w8 (get_or (drop 4 bytes) i 0))
+    × (after_run is_space (chars (drop 4 bytes)) ≡ after_run is_space (chars bytes))
 four_pass {bytes} {four} {n} same u small first read is =
     let enough : 4 ≤ length bytes = omega (arith, first.enough, ap length same) in
     let front : four ≡ take 4 bytes = first.same ∙ ap (take 4) same in
@@ -52,7 +55,8 @@ none_space bytes (c ∷ cs) e n = go (c == 32) refl
     go true t = let same : c ≡ 32 = eqb-true c 32 t in absurd (n (byte_from_char bytes (encode_utf8_all cs) c (sym e) (omega (arith, same)) ∙ same))
     go false t = refl
 
-pub spaces_end : {hay bytes rest : List ℕ} (i : ℕ) → hay ≡ bytes → IsUtf8 (drop i bytes) → (get_or hay i 0 ≡ 32 → ⊥) → rest ≡ drop i bytes → chars rest ≡ after_run is_space (chars (drop i bytes))
+pub spaces_end : {hay bytes rest : List ℕ} (i : ℕ) → hay ≡ bytes → IsUtf8 (drop i bytes) → (get_or hay i 0 ≡ 32 → ⊥) → rest ≡ drop i bytes
+    → chars rest ≡ after_run is_space (chars (drop i bytes))
 spaces_end {bytes} i same u n e =
     let here = drop i bytes in
     let place : i ≡ i + 0 = omega arith in
@@ -66,17 +70,21 @@ blanks_go_on : (s : Text) → after_run is_blank (after_run is_space s) ≡ afte
 blanks_go_on [] = refl
 blanks_go_on (c ∷ s) = go (c == 32) refl (blanks_go_on s)
   where
-    go : (b : Bool) → (c == 32) ≡ b → after_run is_blank (after_run is_space s) ≡ after_run is_blank s → after_run is_blank (cond b (after_run is_space s) (c ∷ s)) ≡ after_run is_blank (c ∷ s)
+    go : (b : Bool) → (c == 32) ≡ b → after_run is_blank (after_run is_space s) ≡ after_run is_blank s
+        → after_run is_blank (cond b (after_run is_space s) (c ∷ s)) ≡ after_run is_blank (c ∷ s)
     go true e h = let same : c ≡ 32 = eqb-true c 32 e in rw same h
     go false e h = refl
 
-pub front_passes : {rest : Text} (text : Text) → rest ≡ after_run is_space text → (begins is_space rest ≡ false) × (after_run is_blank rest ≡ after_run is_blank text)
+pub front_passes : {rest : Text} (text : Text) → rest ≡ after_run is_space text
+    → (begins is_space rest ≡ false) × (after_run is_blank rest ≡ after_run is_blank text)
 front_passes text e = (ap (begins is_space) e ∙ after-run is_space text, ap (after_run is_blank) e ∙ blanks_go_on text)
 
-pub blank_passes : {c : ℕ} {rest text : Text} (after : Text) → rest ≡ after_run is_space after → text ≡ c ∷ after → (not (is_space c) && is_blank c) ≡ true → after_run is_blank rest ≡ after_run is_blank text
+pub blank_passes : {c : ℕ} {rest text : Text} (after : Text) → rest ≡ after_run is_space after → text ≡ c ∷ after → (not (is_space c) && is_blank c) ≡ true
+    → after_run is_blank rest ≡ after_run is_blank text
 blank_passes {c} after e h t = (front_passes after e).1 ∙ sym (ap (after_run is_blank) h ∙ rw ((and_parts (not (is_space c)) (is_blank c) t).1) refl)
 
-pub none_stands : {c : ℕ} {text : Text} (after : Text) → text ≡ c ∷ after → begins is_space text ≡ false → (not (is_space c) && is_blank c) ≡ false → text ≡ after_run is_blank text
+pub none_stands : {c : ℕ} {text : Text} (after : Text) → text ≡ c ∷ after → begins is_space text ≡ false → (not (is_space c) && is_blank c) ≡ false
+    → text ≡ after_run is_blank text
 none_stands {c} after h n w =
     let other : is_space c ≡ false = sym (ap (begins is_space) h) ∙ n in
     let none : is_blank c ≡ false = sym (ap (λ b. not b && is_blank c) other) ∙ w in

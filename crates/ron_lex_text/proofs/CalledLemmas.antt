@@ -1,6 +1,7 @@
 -- A text and a name, gone over side by side: for `strip_called`.
 use Rattle.std.specs.Prelude.{encode_utf8_all}
-use Rattle.std.proofs.Common.{◌≡◌, ℕ, ◌+◌, ◌<◌, ◌≤◌, Bool, true, false, ◌&&◌, ◌==◌, cond, nat_lt, List, [], ◌∷◌, ◌++◌, length, get_or, drop, IsUtf8, refl, sym, ap, ap₂, ◌∙◌, arith, eqb-true, eq-eqb}
+use Rattle.std.proofs.Common.{◌≡◌, ℕ, ◌+◌, ◌<◌, ◌≤◌, Bool, true, false, ◌&&◌, ◌==◌, cond, nat_lt, List, [], ◌∷◌, ◌++◌, length, get_or, drop, IsUtf8, refl, sym}
+use Rattle.std.proofs.Common.{ap, ap₂, ◌∙◌, arith, eqb-true, eq-eqb}
 use Rattle.std.specs.List.{list_all}
 use Rattle.std.specs.Str.{chars}
 use Rattle.std.proofs.Math.Bool.{and-false}
@@ -21,7 +22,8 @@ step c n s h =
     (ap₂ (λ p q. (p && list_all in_ascii_name n) && (q && begins_with (n ++ colon ∷ []) s)) h same, ap₂ (λ p q. cond (p && q) (parting n s) (c ∷ s)) same h)
 
 -- the name goes on, and the text doesn't go on as it does
-stop : (c : ℕ) (n s : Text) → ((d : ℕ) (t : Text) → s ≡ d ∷ t → ((d == c) && in_ascii_name c) ≡ false) → (stands_called (c ∷ n) s ≡ false) × (parting (c ∷ n) s ≡ s)
+stop : (c : ℕ) (n s : Text) → ((d : ℕ) (t : Text) → s ≡ d ∷ t → ((d == c) && in_ascii_name c) ≡ false)
+    → (stands_called (c ∷ n) s ≡ false) × (parting (c ∷ n) s ≡ s)
 stop c n [] h = (and-false (in_ascii_name c && list_all in_ascii_name n), refl)
 stop c n (d ∷ s) h = (go (in_ascii_name c) (d == c) (h d s refl), ap (λ b. cond b (parting n s) (d ∷ s)) (h d s refl))
   where
@@ -52,7 +54,8 @@ stands_nowhere (d ∷ s) e = ap (λ b. b && true) e
 -- ---- by bytes
 
 -- behind a byte of the name that stands in the text too
-pub both_pass : {wanted name hay text : List ℕ} {i : ℕ} → wanted ≡ name → hay ≡ text → i < length wanted → i < length hay → get_or hay i 0 ≡ get_or wanted i 0 → IsUtf8 (drop i name) → IsUtf8 (drop i text)
+pub both_pass : {wanted name hay text : List ℕ} {i : ℕ} → wanted ≡ name → hay ≡ text → i < length wanted → i < length hay → get_or hay i 0 ≡ get_or wanted i 0
+    → IsUtf8 (drop i name) → IsUtf8 (drop i text)
     → (nat_lt (get_or wanted i 0) 128 && continues_name (get_or wanted i 0)) ≡ true
     → (i + 1 ≤ length name) × (i + 1 ≤ length text) × IsUtf8 (drop (i + 1) name) × IsUtf8 (drop (i + 1) text)
     × (stands_called (chars (drop (i + 1) name)) (chars (drop (i + 1) text)) ≡ stands_called (chars (drop i name)) (chars (drop i text)))

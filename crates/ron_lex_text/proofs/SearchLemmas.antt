@@ -1,5 +1,6 @@
 -- Searches by bytes: where ASCII alone passes a test, the first byte that passes is the first character that does.
-use Rattle.std.proofs.Common.{◌≡◌, ℕ, zero, suc, ◌+◌, ◌-◌, ◌<◌, ◌≤◌, Bool, true, false, not, ◌==◌, List, [], ◌∷◌, Some, None, length, length-append, get_or, drop, IsUtf8, refl, sym, ap, subst, ◌∙◌, arith, ⊎_elim, encode_utf8, encode_utf8_all}
+use Rattle.std.proofs.Common.{◌≡◌, ℕ, zero, suc, ◌+◌, ◌-◌, ◌<◌, ◌≤◌, Bool, true, false, not, ◌==◌, List, [], ◌∷◌, Some, None, length, length-append, get_or}
+use Rattle.std.proofs.Common.{drop, IsUtf8, refl, sym, ap, subst, ◌∙◌, arith, ⊎_elim, encode_utf8, encode_utf8_all}
 use Rattle.std.specs.Str.{chars}
 use Rattle.std.proofs.Math.ListN.{drop_of_length-le}
 use Rattle.std.proofs.Math.Seq.{drop-append-add}
@@ -22,7 +23,8 @@ module _ (test : ℕ → Bool) (ascii : (c : ℕ) → test c ≡ true → c < 12
 
   at_start : (c : ℕ) (cs : List ℕ) (k : ℕ) → test c ≡ true → Ends (encode_utf8_all (c ∷ cs)) k → Leads (c ∷ cs) k
   at_start c cs zero t h = rw t refl
-  at_start c cs (suc k) t h = absurd (h.before 0 (omega arith) (omega arith) (ap test (byte_from_char (encode_utf8_all (c ∷ cs)) (encode_utf8_all cs) c refl (ascii c t)) ∙ t))
+  at_start c cs (suc k) t h =
+      absurd (h.before 0 (omega arith) (omega arith) (ap test (byte_from_char (encode_utf8_all (c ∷ cs)) (encode_utf8_all cs) c refl (ascii c t)) ∙ t))
 
   not_inside : (c : ℕ) (cs : List ℕ) (k : ℕ) → test c ≡ false → k < length (encode_utf8 c) → Ends (encode_utf8_all (c ∷ cs)) k → ⊥
   not_inside c cs k t l h =
@@ -48,25 +50,30 @@ module _ (test : ℕ → Bool) (ascii : (c : ℕ) → test c ≡ true → c < 12
       let behind = λ (t : test c ≡ false) (l : size ≤ k).
       let place : size + (k - size) ≡ k = omega arith in
       let later = from_first cs (k - size) (past_one c cs (k - size) (subst (Ends (encode_utf8_all (c ∷ cs))) (sym place) h)) in
-      let leads : Leads (c ∷ cs) k = rw t (later ∙ sym (drop-append-add (encode_utf8 c) (encode_utf8_all cs) (k - size)) ∙ ap (λ i. drop i (encode_utf8_all (c ∷ cs))) place) in
+      let leads : Leads (c ∷ cs) k =
+      rw t (later ∙ sym (drop-append-add (encode_utf8 c) (encode_utf8_all cs) (k - size)) ∙ ap (λ i. drop i (encode_utf8_all (c ∷ cs))) place) in
       leads in
       ⊎_elim (λ t. at_start c cs k t h) (λ t. ⊎_elim (λ l. absurd (not_inside c cs k t l h)) (behind t) (cases_lt k size)) (cases_Bool (test c))
 
-  rest_is : (bytes rest : List ℕ) (k : ℕ) → IsUtf8 bytes → IsUtf8 rest → Ends bytes k → rest ≡ drop k bytes → chars rest ≡ after_run (λ c. not (test c)) (chars bytes)
+  rest_is : (bytes rest : List ℕ) (k : ℕ) → IsUtf8 bytes → IsUtf8 rest → Ends bytes k → rest ≡ drop k bytes
+      → chars rest ≡ after_run (λ c. not (test c)) (chars bytes)
   rest_is bytes rest k u v h r =
       let e = from_first (chars bytes) k (rw (encodes-chars bytes u) h) in
       sym (chars_from_encodes (after_run (λ c. not (test c)) (chars bytes)) rest v (e ∙ ap (drop k) (encodes-chars bytes u) ∙ sym r))
 
   -- what a search answers: the text from the first byte on that passes, or nothing where none does
-  pub found : {hay rest : List ℕ} {k : ℕ} (bytes : List ℕ) → IsUtf8 bytes → IsUtf8 rest → hay ≡ bytes → IsFirstByte test hay (Some k) → rest ≡ drop k bytes → chars rest ≡ after_run (λ c. not (test c)) (chars bytes)
+  pub found : {hay rest : List ℕ} {k : ℕ} (bytes : List ℕ) → IsUtf8 bytes → IsUtf8 rest → hay ≡ bytes → IsFirstByte test hay (Some k) → rest ≡ drop k bytes
+      → chars rest ≡ after_run (λ c. not (test c)) (chars bytes)
   found {rest} {k} bytes u v same h r =
       let p = subst (λ x. IsFirstByte test x (Some k)) same h in
       rest_is bytes rest k u v (record { within = omega (arith, p.0.high); before = p.0.before; stops = λ _. p.1 }) r
 
-  pub not_found : {hay : List ℕ} (bytes : List ℕ) → IsUtf8 bytes → hay ≡ bytes → IsFirstByte test hay None → chars [] ≡ after_run (λ c. not (test c)) (chars bytes)
+  pub not_found : {hay : List ℕ} (bytes : List ℕ) → IsUtf8 bytes → hay ≡ bytes → IsFirstByte test hay None
+      → chars [] ≡ after_run (λ c. not (test c)) (chars bytes)
   not_found bytes u same h =
       let p = subst (λ x. IsFirstByte test x None) same h in
-      rest_is bytes [] (length bytes) u IsUtf8-nil (record { within = omega arith; before = p; stops = λ l. absurd (omega (arith, l)) }) (sym (drop_of_length-le bytes (omega arith)))
+      rest_is bytes [] (length bytes) u IsUtf8-nil (record { within = omega arith; before = p; stops = λ l. absurd (omega (arith, l)) })
+      (sym (drop_of_length-le bytes (omega arith)))
 
 -- a search for one byte, and for two
 pub one_ascii : (a : ℕ) → a < 128 → (c : ℕ) → is_byte a c ≡ true → c < 128

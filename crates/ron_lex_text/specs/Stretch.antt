@@ -10,7 +10,8 @@ use Rattle.ron_spec_words.specs.Runs.{begins, begins_with}
 pub use Rattle.ron_spec_words.specs.Runs.{is_ended}
 use Rattle.ron_spec_words.specs.Number.{in_number}
 use Rattle.ron_lex_text.specs.declared.text.Class.{Class}
-use Rattle.ron_lex_text.specs.declared.text.Class.TheVariants.{Blank, White, Line, NameStart, NameContinue, NameMark, RawName, HexDigit, HexDigits, Hash, Unquoted, Plain, Comment, Continuation}
+use Rattle.ron_lex_text.specs.declared.text.Class.TheVariants.{Blank, White, Line, NameStart, NameContinue, NameMark, RawName, HexDigit, HexDigits, Hash}
+use Rattle.ron_lex_text.specs.declared.text.Class.TheVariants.{Unquoted, Plain, Comment, Continuation}
 
 -- the text ends with rest
 pub record IsSuffix (rest text : Text) : Type 0 where

@@ -1,5 +1,6 @@
 -- What stands around items, in the order in which code writes it.
-use Rattle.std.proofs.Common.{◌≡◌, ℕ, zero, suc, ◌<◌, ◌==◌, ◌∷◌, arith, Bool, true, false, ◌&&◌, nat_le, cond, List, [], ◌++◌, codes, encode_utf8_all, length, refl, sym, ap, ◌∙◌}
+use Rattle.std.proofs.Common.{◌≡◌, ℕ, zero, suc, ◌<◌, ◌==◌, ◌∷◌, arith, Bool, true, false, ◌&&◌, nat_le, cond, List, [], ◌++◌, codes, encode_utf8_all, length}
+use Rattle.std.proofs.Common.{refl, sym, ap, ◌∙◌}
 use Rattle.std.specs.Fmt.{decimal}
 use Rattle.std.proofs.lemmas.Bool.{eqb-true}
 use Rattle.std.proofs.lemmas.Str.{encodes-append}
@@ -32,7 +33,8 @@ module _ (p : Place) (k : Container) (n : ℕ) where
 
   pub before_numbered : is_numbered ≡ true → encode_utf8_all (before p k n) ≡ encode_utf8_all (before_any (spacing_in p k) n) ++ number_comment n
   before_numbered h =
-      ap encode_utf8_all (commented (is_list k) (p.config.enumerate_arrays && nat_le (inside k p).level p.config.depth_limit) (before_any (spacing_in p k) n) (number_comment n) h)
+      ap encode_utf8_all
+      (commented (is_list k) (p.config.enumerate_arrays && nat_le (inside k p).level p.config.depth_limit) (before_any (spacing_in p k) n) (number_comment n) h)
       ∙ encodes-append (before_any (spacing_in p k) n) (number_comment n) ∙ ap (λ u. encode_utf8_all (before_any (spacing_in p k) n) ++ u) (comment_ascii n)
 
 -- on a line of its own, and in a row
@@ -47,8 +49,10 @@ row_before c (suc n) = refl
 pub behind_comma : (n : ℕ) (t : Text) → encode_utf8_all (comma n ++ t) ≡ comma n ++ encode_utf8_all t
 behind_comma n t = encodes-append (comma n) t ∙ ap (λ u. u ++ encode_utf8_all t) (comma_ascii n)
 
-pub bytes_on_lines : (s : Spacing) (c : Config) (outer level n : ℕ) → s ≡ on_lines c outer → level ≡ suc outer → encode_utf8_all (before_any s n) ≡ comma n ++ encode_utf8_all (line_at c level)
-bytes_on_lines s c outer level n e l = ap (λ s. encode_utf8_all (before_any s n)) e ∙ ap encode_utf8_all (line_before c outer n) ∙ behind_comma n (line_at c (suc outer)) ∙ ap (λ l. comma n ++ encode_utf8_all (line_at c l)) (sym l)
+pub bytes_on_lines : (s : Spacing) (c : Config) (outer level n : ℕ) → s ≡ on_lines c outer → level ≡ suc outer
+    → encode_utf8_all (before_any s n) ≡ comma n ++ encode_utf8_all (line_at c level)
+bytes_on_lines s c outer level n e l = ap (λ s. encode_utf8_all (before_any s n)) e ∙ ap encode_utf8_all (line_before c outer n)
+    ∙ behind_comma n (line_at c (suc outer)) ∙ ap (λ l. comma n ++ encode_utf8_all (line_at c l)) (sym l)
 
 pub bytes_in_row : (s : Spacing) (c : Config) (n : ℕ) → s ≡ in_a_row c → encode_utf8_all (before_any s n) ≡ comma n ++ encode_utf8_all (separator_at c n)
 bytes_in_row s c n e = ap (λ s. encode_utf8_all (before_any s n)) e ∙ ap encode_utf8_all (row_before c n) ∙ behind_comma n (separator_at c n)

@@ -1,5 +1,6 @@
 -- Escapes as they are put: by a letter, or by digits in base 16.
-use Rattle.std.proofs.Common.{◌≡◌, ℕ, zero, suc, ◌<◌, ◌≤◌, ◌/◌, ◌%◌, ◌^◌, ◌==◌, Bool, true, false, not, ◌&&◌, cond, is_none, Some, None, List, [], ◌∷◌, ◌++◌, codes, encode_utf8_all, refl, sym, ap, subst, ◌∙◌, append_assoc, arith}
+use Rattle.std.proofs.Common.{◌≡◌, ℕ, zero, suc, ◌<◌, ◌≤◌, ◌/◌, ◌%◌, ◌^◌, ◌==◌, Bool, true, false, not, ◌&&◌, cond, is_none, Some, None, List, [], ◌∷◌, ◌++◌}
+use Rattle.std.proofs.Common.{codes, encode_utf8_all, refl, sym, ap, subst, ◌∙◌, append_assoc, arith}
 use Rattle.std.specs.Fmt.{WritesInCalls, digits, digits_onto, digit_glyph}
 use Rattle.std.proofs.lemmas.Bool.{false≢true, eqb-true}
 use Rattle.std.proofs.lemmas.Str.{encode_ascii}
@@ -21,7 +22,8 @@ hidden_of : (a b : Bool) → (a && not b) ≡ false → a ≡ true → b ≡ tru
 hidden_of a true h e = refl
 hidden_of a false h e = absurd (cc (h, e))
 
-pub by_number : (c : ℕ) → c < 2 ^ 32 → stands_as_it_is Both c ≡ false → short_escape Both c ≡ None → codes "\\u{" ++ (digits 16 false c ++ codes "}") ≡ encode_utf8_all (escaped_char Both c)
+pub by_number : (c : ℕ) → c < 2 ^ 32 → stands_as_it_is Both c ≡ false → short_escape Both c ≡ None
+    → codes "\\u{" ++ (digits 16 false c ++ codes "}") ≡ encode_utf8_all (escaped_char Both c)
 unfolding stands_as_it_is
 by_number c small h e = shown_hidden Both c small e (hidden_of (is_none (short_escape Both c)) (is_hidden c) h (ap is_none e))
 
@@ -29,7 +31,8 @@ printed_of : (a b : Bool) → (a && b) ≡ false → a ≡ true → b ≡ false
 printed_of a true h e = absurd (cc (h, e))
 printed_of a false h e = refl
 
-pub byte_by_number : (b : ℕ) → byte_stands_as_it_is b ≡ false → short_byte b ≡ None → codes "\\x" ++ (digit_glyph false (b / 16) ∷ digit_glyph false (b % 16) ∷ []) ≡ escaped_byte b
+pub byte_by_number : (b : ℕ) → byte_stands_as_it_is b ≡ false → short_byte b ≡ None
+    → codes "\\x" ++ (digit_glyph false (b / 16) ∷ digit_glyph false (b % 16) ∷ []) ≡ escaped_byte b
 unfolding byte_stands_as_it_is
 byte_by_number b h e = sym (byte_numbered b e (printed_of (is_none (short_byte b)) (is_printed b) h (ap is_none e)))
 
@@ -42,9 +45,11 @@ glyph n = digit_glyph false (n % 16)
 behind : (k n : ℕ) (acc : List ℕ) → digits_onto k 16 false n acc ≡ digits_onto k 16 false n [] ++ acc
 behind zero n acc = refl
 behind (suc k) n acc =
-    elim (n / 16 == 0) as (λ b. cond b (glyph n ∷ acc) (digits_onto k 16 false (n / 16) (glyph n ∷ acc)) ≡ cond b (glyph n ∷ []) (digits_onto k 16 false (n / 16) (glyph n ∷ [])) ++ acc) [
+    elim (n / 16 == 0) as (λ b. cond b (glyph n ∷ acc) (digits_onto k 16 false (n / 16) (glyph n ∷ acc))
+    ≡ cond b (glyph n ∷ []) (digits_onto k 16 false (n / 16) (glyph n ∷ [])) ++ acc) [
       | true ↦ refl
-      | false ↦ behind k (n / 16) (glyph n ∷ acc) ∙ sym (append_assoc (digits_onto k 16 false (n / 16) []) (glyph n ∷ []) acc) ∙ ap (λ t. t ++ acc) (sym (behind k (n / 16) (glyph n ∷ [])))
+      | false ↦ behind k (n / 16) (glyph n ∷ acc) ∙ sym (append_assoc (digits_onto k 16 false (n / 16) []) (glyph n ∷ []) acc)
+          ∙ ap (λ t. t ++ acc) (sym (behind k (n / 16) (glyph n ∷ [])))
     ]
 
 pub last_digit : (k n : ℕ) → n < 16 → digits_onto (suc k) 16 false n [] ≡ glyph n ∷ []
@@ -56,12 +61,14 @@ last_digit k n h =
 
 pub more_digits : (k n : ℕ) → 16 ≤ n → digits_onto (suc k) 16 false n [] ≡ digits_onto k 16 false (n / 16) [] ++ (glyph n ∷ [])
 more_digits k n h =
-    elim (n / 16 == 0) as (λ b. n / 16 == 0 ≡ b → cond b (glyph n ∷ []) (digits_onto k 16 false (n / 16) (glyph n ∷ [])) ≡ digits_onto k 16 false (n / 16) [] ++ (glyph n ∷ [])) [
+    elim (n / 16 == 0)
+    as (λ b. n / 16 == 0 ≡ b → cond b (glyph n ∷ []) (digits_onto k 16 false (n / 16) (glyph n ∷ [])) ≡ digits_onto k 16 false (n / 16) [] ++ (glyph n ∷ [])) [
       | true ↦ λ e. absurd (let zero = eqb-true (n / 16) 0 e in omega (arith, zero))
       | false ↦ λ e. behind k (n / 16) (glyph n ∷ [])
     ] refl
 
-module _ {W : Type 0} (took : W → List ℕ → W → Type 0) (n : ℕ) (w v u : W) (large : 16 ≤ n) (others : (k : ℕ) → n / 16 < 16 ^ suc k → WritesInCalls took w (digits_onto (suc k) 16 false (n / 16) []) v) (digit : WritesInCalls took v (glyph n ∷ []) u) where
+module _ {W : Type 0} (took : W → List ℕ → W → Type 0) (n : ℕ) (w v u : W) (large : 16 ≤ n) (others : (k : ℕ) → n / 16 < 16 ^ suc k
+    → WritesInCalls took w (digits_onto (suc k) 16 false (n / 16) []) v) (digit : WritesInCalls took v (glyph n ∷ []) u) where
   pub digits_put : (k : ℕ) → n < 16 ^ suc k → WritesInCalls took w (digits_onto (suc k) 16 false n []) u
   digits_put zero h = absurd (omega (arith, h, large))
   digits_put (suc k) h = subst (λ t. WritesInCalls took w t u) (sym (more_digits (suc k) n large)) (both took w _ v _ u (others k (omega (arith, h))) digit)

@@ -1,4 +1,5 @@
--- Pieces that are written in a row, each behind what stands before the item of its number: of a list, a tuple, a map or a struct. The first n stand, and one more comes.
+-- Pieces that are written in a row, each behind what stands before the item of its number: of a list, a tuple, a map or a struct. The first n stand, and one
+-- more comes.
 use Rattle.std.proofs.Common.{◌≡◌, ℕ, ◌+◌, ◌<◌, ◌≤◌, Option, List, length, take, get_or, map, refl, subst}
 use Rattle.std.specs.Fmt.{WritesInCalls}
 use Rattle.std.specs.List.{list_all}
@@ -34,7 +35,8 @@ module _ {A W : Type 0} (before : ℕ → List ℕ) (f : A → Piece) (took : W 
   pub all_stand : (n : ℕ) (xs : List A) {w v : W} → length xs ≤ n → Stand n xs w v → IsWritten took limit w (row_piece before f xs) v
   all_stand n xs {w = w} {v = v} h k = subst (λ ys. IsWritten took limit w (row_piece before f ys) v) (take_all n xs h) k
 
-  module _ (xs : List A) (n : ℕ) (a : A) (less : n < length xs) (is : a ≡ get_or xs n a) {w v z u : W} (stand : Stand n xs w v) (comma : WritesInCalls took v (before n) z) where
+  module _ (xs : List A) (n : ℕ) (a : A) (less : n < length xs) (is : a ≡ get_or xs n a) {w v z u : W} (stand : Stand n xs w v)
+      (comma : WritesInCalls took v (before n) z) where
     pub more_stand : IsWritten took limit z (f a) u → Stand (n + 1) xs w u
     more_stand h = record {
       text = rw (so_far-more before xs n a less is (λ a. (f a).bytes)) (both took _ _ _ _ _ stand.text (both took _ _ _ _ _ comma h.text));
@@ -55,4 +57,5 @@ module _ {A W : Type 0} (before : ℕ → List ℕ) (f : A → Piece) (took : W 
         begun : HasBegun took z (f a).bytes u → HasBegun took w (laid_from before 0 (map (λ a. (f a).bytes) xs)) u
         begun k =
             let more = so_far-front before (λ a. (f a).bytes) (n + 1) xs in
-            rw (more.1, so_far-more before xs n a less is (λ a. (f a).bytes)) (begun_longer took _ _ more.0 _ (begun_behind took _ _ _ _ _ stand.text (begun_behind took _ _ _ _ _ comma k)))
+            rw (more.1, so_far-more before xs n a less is (λ a. (f a).bytes))
+            (begun_longer took _ _ more.0 _ (begun_behind took _ _ _ _ _ stand.text (begun_behind took _ _ _ _ _ comma k)))

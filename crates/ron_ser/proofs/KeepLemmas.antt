@@ -1,5 +1,6 @@
 -- Somes that are kept, as code finds it by the beginning of the text: for `somes.rt` and the calls that ask it.
-use Rattle.std.proofs.Common.{◌≡◌, Bool, true, false, ◌&&◌, ◌||◌, cond, Option, None, Some, List, [], ◌∷◌, slice_get, Box, Vec, String, Global, refl, sym, ap, subst, ◌∙◌}
+use Rattle.std.proofs.Common.{◌≡◌, Bool, true, false, ◌&&◌, ◌||◌, cond, Option, None, Some, List, [], ◌∷◌, slice_get, Box, Vec, String, Global, refl, sym, ap}
+use Rattle.std.proofs.Common.{subst, ◌∙◌}
 use Rattle.ron_spec_words.specs.Characters.{Text}
 use Rattle.ron_value.specs.Tree.{Tree}
 use Rattle.ron_value.specs.View.{tree_of}
@@ -30,9 +31,12 @@ use Rattle.ron_ser.proofs.TreeLemmas.{tree-none, tree-some}
 
 module _ (p : Place) (blank : blank p.config ≡ true) (implicit : p.extensions.implicit_some ≡ true) where
   -- the items' text begins as an option where the first one's does
-  pub first_leads : (ds : List Data) (d : Data) → Some d ≡ slice_get ds 0 → IsValidFirst (data_view d) → leads p.extensions (data_view d) ≡ opens_as_option (inside_tuple p (items_view ds))
+  pub first_leads : (ds : List Data) (d : Data) → Some d ≡ slice_get ds 0 → IsValidFirst (data_view d)
+      → leads p.extensions (data_view d) ≡ opens_as_option (inside_tuple p (items_view ds))
   first_leads [] d e v = absurd (cc)
-  first_leads (a ∷ ds) d e v = let same : d ≡ a = cc in ap (λ d. leads p.extensions (data_view d)) same ∙ sym (items_open p.config (are_gaps p.config blank) p.extensions p.level p.docs implicit (data_view a) (items_view ds) (subst (λ d. IsValidFirst (data_view d)) same v))
+  first_leads (a ∷ ds) d e v = let same : d ≡ a = cc in
+      ap (λ d. leads p.extensions (data_view d)) same ∙ sym (items_open p.config (are_gaps p.config blank) p.extensions p.level p.docs implicit (data_view a)
+      (items_view ds) (subst (λ d. IsValidFirst (data_view d)) same v))
 
   pub none_kept : (ds : List Data) → None ≡ slice_get ds 0 → false ≡ opens_as_option (inside_tuple p (items_view ds))
   none_kept [] e = sym (no_items_open p.config (are_gaps p.config blank) p.extensions p.level p.docs implicit)
@@ -83,10 +87,12 @@ pub option_leads : (x : Extensions) (d : Data) (o : Option (Box Data Global)) �
 option_leads x d None i = leads_as x d _ _ i view-none refl
 option_leads x d (Some b) i = leads_as x d _ _ i (view-some b) refl
 
-pub newtype_leads : (x : Extensions) (d : Data) (name : String Global) (content : Box Data Global) → d ≡ data_.Newtype name content → leads x (data_view d) ≡ (x.unwrap_newtypes && leads x (data_view content.value))
+pub newtype_leads : (x : Extensions) (d : Data) (name : String Global) (content : Box Data Global) → d ≡ data_.Newtype name content
+    → leads x (data_view d) ≡ (x.unwrap_newtypes && leads x (data_view content.value))
 newtype_leads x d name content i = ap (leads x) (ap data_view i ∙ view-newtype name content)
 
-pub newtype_first : (d : Data) (name : String Global) (content : Box Data Global) → d ≡ data_.Newtype name content → IsValidFirst (data_view content.value) → IsValidFirst (data_view d)
+pub newtype_first : (d : Data) (name : String Global) (content : Box Data Global) → d ≡ data_.Newtype name content → IsValidFirst (data_view content.value)
+    → IsValidFirst (data_view d)
 newtype_first d name content i h = subst IsValidFirst (sym (ap data_view i ∙ view-newtype name content)) h
 
 pub raw_leads : (x : Extensions) (d : Data) (raw : RawValue) → d ≡ data_.Raw raw → leads x (data_view d) ≡ opens_as_option (raw_text_of raw)
@@ -112,17 +118,24 @@ variant_kept p bare name v (items_of ds) = refl
 variant_kept p bare name v (named_of fields) = refl
 
 module _ (p : Place) (bare : Bool) {d : Data} where
-  pub some_kept : {o : Option (Box Data Global)} {content : Box Data Global} → d ≡ data_.Option o → o ≡ Some content → keeps_at p bare (data_view d) ≡ keeps_at p bare (data_view content.value)
+  pub some_kept : {o : Option (Box Data Global)} {content : Box Data Global} → d ≡ data_.Option o → o ≡ Some content
+      → keeps_at p bare (data_view d) ≡ keeps_at p bare (data_view content.value)
   some_kept {content = content} i o = ap (λ d. keeps_at p bare (data_view d)) (i ∙ ap data_.Option o) ∙ ap (keeps_at p bare) (view-some content)
 
-  pub newtype_kept : {name : String Global} {content : Box Data Global} {alone : Bool} → d ≡ data_.Newtype name content → alone ≡ (bare || p.extensions.unwrap_newtypes) → keeps_at p bare (data_view d) ≡ (alone && keeps_at p false (data_view content.value))
-  newtype_kept {name = name} {content = content} i a = ap (λ d. keeps_at p bare (data_view d)) i ∙ ap (keeps_at p bare) (view-newtype name content) ∙ ap (λ b. b && keeps_at p false (data_view content.value)) (sym a)
+  pub newtype_kept : {name : String Global} {content : Box Data Global} {alone : Bool} → d ≡ data_.Newtype name content
+      → alone ≡ (bare || p.extensions.unwrap_newtypes) → keeps_at p bare (data_view d) ≡ (alone && keeps_at p false (data_view content.value))
+  newtype_kept {name = name} {content = content} i a = ap (λ d. keeps_at p bare (data_view d)) i ∙ ap (keeps_at p bare) (view-newtype name content)
+      ∙ ap (λ b. b && keeps_at p false (data_view content.value)) (sym a)
 
-  pub tuple_kept : (items : Vec Data Global) {b : Bool} → d ≡ data_.Tuple items → bare ≡ b → keeps_at p bare (data_view d) ≡ (b && opens_as_option (inside_tuple p (items_view items.items)))
-  tuple_kept items i e = ap (λ d. keeps_at p bare (data_view d)) i ∙ ap (keeps_at p bare) (view-tuple items) ∙ ap (λ b. b && opens_as_option (inside_tuple p (items_view items.items))) e
+  pub tuple_kept : (items : Vec Data Global) {b : Bool} → d ≡ data_.Tuple items → bare ≡ b
+      → keeps_at p bare (data_view d) ≡ (b && opens_as_option (inside_tuple p (items_view items.items)))
+  tuple_kept items i e = ap (λ d. keeps_at p bare (data_view d)) i ∙ ap (keeps_at p bare) (view-tuple items)
+      ∙ ap (λ b. b && opens_as_option (inside_tuple p (items_view items.items))) e
 
-  pub tuple_struct_kept : {name : String Global} (items : Vec Data Global) {b : Bool} → d ≡ data_.TupleStruct name items → bare ≡ b → keeps_at p bare (data_view d) ≡ (b && opens_as_option (inside_tuple p (items_view items.items)))
-  tuple_struct_kept {name = name} items i e = ap (λ d. keeps_at p bare (data_view d)) i ∙ ap (keeps_at p bare) (view-tuple_struct name items) ∙ ap (λ b. b && opens_as_option (inside_tuple p (items_view items.items))) e
+  pub tuple_struct_kept : {name : String Global} (items : Vec Data Global) {b : Bool} → d ≡ data_.TupleStruct name items → bare ≡ b
+      → keeps_at p bare (data_view d) ≡ (b && opens_as_option (inside_tuple p (items_view items.items)))
+  tuple_struct_kept {name = name} items i e = ap (λ d. keeps_at p bare (data_view d)) i ∙ ap (keeps_at p bare) (view-tuple_struct name items)
+      ∙ ap (λ b. b && opens_as_option (inside_tuple p (items_view items.items))) e
 
   pub held_kept : {v : AnyValue} → d ≡ data_.Value v → keeps_at p bare (data_view d) ≡ value_keeps (tree_of (held_value v))
   held_kept {v = v} i = ap (λ d. keeps_at p bare (data_view d)) i ∙ ap (keeps_at p bare) (view-value v)
@@ -140,7 +153,8 @@ module _ {v : Value} where
   pub value_none_kept : {o : Option (Box Value Global)} → v ≡ value_.Option o → o ≡ None → true ≡ value_keeps (tree_of v)
   value_none_kept i o = sym (ap (λ v. value_keeps (tree_of v)) (i ∙ ap value_.Option o) ∙ ap value_keeps tree-none)
 
-  pub value_some_kept : {o : Option (Box Value Global)} {content : Box Value Global} → v ≡ value_.Option o → o ≡ Some content → value_keeps (tree_of v) ≡ value_keeps (tree_of content.value)
+  pub value_some_kept : {o : Option (Box Value Global)} {content : Box Value Global} → v ≡ value_.Option o → o ≡ Some content
+      → value_keeps (tree_of v) ≡ value_keeps (tree_of content.value)
   value_some_kept {content = content} i o = ap (λ v. value_keeps (tree_of v)) (i ∙ ap value_.Option o) ∙ ap value_keeps (tree-some content)
 
   -- all else keeps none

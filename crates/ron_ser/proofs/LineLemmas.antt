@@ -1,5 +1,6 @@
 -- A text so many times in a row: for `lines.rt`, and for the hashes of raw strings.
-use Rattle.std.proofs.Common.{◌≡◌, ℕ, zero, suc, ◌+◌, ◌-◌, ◌*◌, ◌<◌, ◌≤◌, true, List, [], ◌∷◌, ◌++◌, take, slice_range, codes, chars, encode_utf8_all, IsUtf8, IsCharBoundary, refl, sym, ap, ◌∙◌, append_assoc, append-nil, arith}
+use Rattle.std.proofs.Common.{◌≡◌, ℕ, zero, suc, ◌+◌, ◌-◌, ◌*◌, ◌<◌, ◌≤◌, true, List, [], ◌∷◌, ◌++◌, take, slice_range, codes, chars, encode_utf8_all, IsUtf8}
+use Rattle.std.proofs.Common.{IsCharBoundary, refl, sym, ap, ◌∙◌, append_assoc, append-nil, arith}
 use Rattle.std.specs.Str.{IsAscii}
 use Rattle.std.proofs.Math.Seq.{take-append-add}
 use Rattle.std.proofs.lemmas.Str.{encodes-append, encodes-chars, chars-IsAscii, IsUtf8-from_ascii, IsCharBoundary-from_ascii}
@@ -15,7 +16,8 @@ use Rattle.ron_spec_layout.proofs.Bytes.{ascii}
 
 times_both : (m n : ℕ) (t : Text) → times (m + n) t ≡ times m t ++ times n t
 times_both zero n t = ap (λ k. times k t) (let e : 0 + n ≡ n = omega arith in e)
-times_both (suc m) n t = ap (λ k. times k t) (let e : suc m + n ≡ suc (m + n) = omega arith in e) ∙ ap (λ u. t ++ u) (times_both m n t) ∙ sym (append_assoc t (times m t) (times n t))
+times_both (suc m) n t = ap (λ k. times k t) (let e : suc m + n ≡ suc (m + n) = omega arith in e) ∙ ap (λ u. t ++ u) (times_both m n t)
+    ∙ sym (append_assoc t (times m t) (times n t))
 
 -- one more
 pub times_more : (n : ℕ) (text : List ℕ) → IsUtf8 text → encode_utf8_all (times (n + 1) (chars text)) ≡ encode_utf8_all (times n (chars text)) ++ text
@@ -38,7 +40,8 @@ spaces_past n h = ap (λ k. times k four) (let e : n ≡ 16 + (n - 16) = omega a
 front : (m k : ℕ) → m ≤ k → take (4 * m) (times k four) ≡ times m four
 front zero k h = refl
 front (suc m) zero h = absurd (omega (arith, h))
-front (suc m) (suc k) h = ap (λ i. take i (four ++ times k four)) (let e : 4 * suc m ≡ 4 + 4 * m = omega arith in e) ∙ take-append-add four (times k four) (4 * m) ∙ ap (λ t. four ++ t) (front m k (omega (arith, h)))
+front (suc m) (suc k) h = ap (λ i. take i (four ++ times k four)) (let e : 4 * suc m ≡ 4 + 4 * m = omega arith in e)
+    ∙ take-append-add four (times k four) (4 * m) ∙ ap (λ t. four ++ t) (front m k (omega (arith, h)))
 
 -- the front that is so many levels long
 pub spaces_front : (n : ℕ) (text : List ℕ) → n ≤ 16 → text ≡ slice_range spaces 0 (4 * n) → text ≡ times n four
@@ -48,14 +51,16 @@ times_ascii : (n : ℕ) → IsAscii (times n four)
 times_ascii zero = IsAscii-nil
 times_ascii (suc n) =
     let space : 32 < 128 = omega arith in
-    IsAscii-cons 32 (32 ∷ 32 ∷ 32 ∷ times n four) space (IsAscii-cons 32 (32 ∷ 32 ∷ times n four) space (IsAscii-cons 32 (32 ∷ times n four) space (IsAscii-cons 32 (times n four) space (times_ascii n))))
+    IsAscii-cons 32 (32 ∷ 32 ∷ 32 ∷ times n four) space
+    (IsAscii-cons 32 (32 ∷ 32 ∷ times n four) space (IsAscii-cons 32 (32 ∷ times n four) space (IsAscii-cons 32 (times n four) space (times_ascii n))))
 
 -- it may be cut there
 pub spaces_boundary : (n : ℕ) → n ≤ 16 → IsCharBoundary spaces (4 * n)
 spaces_boundary n h = IsCharBoundary-from_ascii spaces (4 * n) (times_ascii 16) (omega (arith, h))
 
 spaces_bytes : (n : ℕ) → encode_utf8_all (times n four) ≡ times n four
-spaces_bytes n = ap encode_utf8_all (sym (chars-IsAscii (times n four) (times_ascii n))) ∙ encodes-chars (times n four) (IsUtf8-from_ascii (times n four) (times_ascii n))
+spaces_bytes n =
+    ap encode_utf8_all (sym (chars-IsAscii (times n four) (times_ascii n))) ∙ encodes-chars (times n four) (IsUtf8-from_ascii (times n four) (times_ascii n))
 
 -- a text that is four spaces
 pub four_bytes : (n : ℕ) (text : List ℕ) → same_text (chars text) (chars four) ≡ true → times n four ≡ encode_utf8_all (times n (chars text))

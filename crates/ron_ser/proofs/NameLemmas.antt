@@ -36,7 +36,8 @@ differs [] (d ∷ w) h = refl
 differs (c ∷ s) (d ∷ w) h = rw (differs s w (omega (arith, h))) (and-false (c == d))
 
 -- a text of fewer than three bytes is none of the words where each has three characters and more
-pub short_none : (name : List ℕ) (words : List Text) → IsUtf8 name → length name < 3 → list_all (λ w. nat_lt 2 (length w)) words ≡ true → list_any (same_text (chars name)) words ≡ false
+pub short_none : (name : List ℕ) (words : List Text) → IsUtf8 name → length name < 3 → list_all (λ w. nat_lt 2 (length w)) words ≡ true
+    → list_any (same_text (chars name)) words ≡ false
 short_none name [] u few long = refl
 short_none name (w ∷ words) u few long =
     let p = and_parts (nat_lt 2 (length w)) (list_all (λ w. nat_lt 2 (length w)) words) long in

@@ -19,7 +19,11 @@ module _ {W : Type 0} (took : W → List ℕ → W → Type 0) where
   concat_both (x ∷ xs) ys = ap (λ t. x ++ t) (concat_both xs ys) ∙ sym (append_assoc x (concat xs) (concat ys))
 
   pub both : (w : W) (a : List ℕ) (v : W) (b : List ℕ) (u : W) → WritesInCalls took w a v → WritesInCalls took v b u → WritesInCalls took w (a ++ b) u
-  both w a v b u p q = record { parts = p.parts ++ q.parts; calls = calls_both w p.parts v q.parts u p.calls q.calls; whole = concat_both p.parts q.parts ∙ rw (p.whole, q.whole) refl }
+  both w a v b u p q = record {
+    parts = p.parts ++ q.parts;
+    calls = calls_both w p.parts v q.parts u p.calls q.calls;
+    whole = concat_both p.parts q.parts ∙ rw (p.whole, q.whole) refl;
+  }
 
   -- a piece, and what stands behind it
   pub piece : (w v u : W) (a b text : List ℕ) → text ≡ a ++ b → WritesInCalls took w a v → WritesInCalls took v b u → WritesInCalls took w text u

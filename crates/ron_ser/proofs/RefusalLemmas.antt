@@ -6,11 +6,13 @@ use Rattle.ron_ser.specs.declared.refusal.Refusal.{Refusal}
 use Rattle.ron_ser.specs.declared.refusal.Refusal.TheVariants.{Name, Depth}
 use Rattle.ron_ser.specs.Refusal.{RefusesName, IsRefused, TellsName}
 
-pub refuses_wider : {names wider : Bool} {Within Wider : Type 0} (r : Refusal) → (names ≡ false → wider ≡ false) → (Wider → Within) → IsRefused names Within r → IsRefused wider Wider r
+pub refuses_wider : {names wider : Bool} {Within Wider : Type 0} (r : Refusal) → (names ≡ false → wider ≡ false) → (Wider → Within) → IsRefused names Within r
+    → IsRefused wider Wider r
 refuses_wider (Name given) n w h = n h
 refuses_wider Depth n w h = λ k. h (w k)
 
-pub refuses_name : (name : Text) {wider : Bool} (Wider : Type 0) (r : Refusal) → (is_name name ≡ false → wider ≡ false) → RefusesName name r → IsRefused wider Wider r
+pub refuses_name : (name : Text) {wider : Bool} (Wider : Type 0) (r : Refusal) → (is_name name ≡ false → wider ≡ false) → RefusesName name r
+    → IsRefused wider Wider r
 refuses_name name Wider (Name given) n h = n h.1
 refuses_name name Wider Depth n h = absurd h
 

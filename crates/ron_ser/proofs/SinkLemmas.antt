@@ -24,12 +24,15 @@ writing_refuses_sink failed c limit d (Message given) h = absurd h
 writing_refuses_sink failed c limit d (Io text) h = absurd h
 writing_refuses_sink failed c limit d _ h = h
 
-device_refuses_sink : (failed : Bool) (c : Config) (limit : Option ℕ) (d : Data) (e : Error) → RefusesDevice failed e → RefusesSink failed c limit d e × HoldsName (first_refused d) e
+device_refuses_sink : (failed : Bool) (c : Config) (limit : Option ℕ) (d : Data) (e : Error) → RefusesDevice failed e
+    → RefusesSink failed c limit d e × HoldsName (first_refused d) e
 device_refuses_sink failed c limit d OutOfMemory h = (tt, tt)
 device_refuses_sink failed c limit d (Io text) h = (h, tt)
 device_refuses_sink failed c limit d _ h = absurd h
 
-module _ {S : Type 0} (failed : S → Bool) (contents : S → Option (List ℕ)) (device : S → Option GName) (c : Config) (limit : Option ℕ) (d : Data) {bytes : List ℕ} {g h : Gathered S} (e : Error) (stopped : StopsText (Gathers failed contents device) (Loses contents device) (λ g e. RefusesDevice (failed (sink_of g)) e) (RefusesData c limit d) g bytes h e) where
+module _ {S : Type 0} (failed : S → Bool) (contents : S → Option (List ℕ)) (device : S → Option GName) (c : Config) (limit : Option ℕ) (d : Data)
+    {bytes : List ℕ} {g h : Gathered S} (e : Error) (stopped : StopsText (Gathers failed contents device) (Loses contents device)
+    (λ g e. RefusesDevice (failed (sink_of g)) e) (RefusesData c limit d) g bytes h e) where
   pub some_lost : Loses contents device g bytes h
   some_lost = elim stopped [
     | inl k ↦ gathered_front failed contents device k.1
@@ -44,7 +47,8 @@ module _ {S : Type 0} (failed : S → Bool) (contents : S → Option (List ℕ))
 
 -- ---- and all of it is passed on
 
-module _ {S : Type 0} (failed : S → Bool) (contents : S → Option (List ℕ)) (device : S → Option GName) {bytes : List ℕ} {first last : Gathered S} (g : Gathered S) (none_held : held first ≡ []) (came : Gathers failed contents device first bytes last) where
+module _ {S : Type 0} (failed : S → Bool) (contents : S → Option (List ℕ)) (device : S → Option GName) {bytes : List ℕ} {first last : Gathered S}
+    (g : Gathered S) (none_held : held first ≡ []) (came : Gathers failed contents device first bytes last) where
   abbrev pub Passed : Result (Unit {0}) Error → Type 0
   Passed r = MatchResult r (λ _. Gathers failed contents device last [] g) (λ e. Loses contents device last [] g × RefusesDevice (failed (sink_of g)) e)
 
@@ -63,7 +67,8 @@ module _ {S : Type 0} (failed : S → Bool) (contents : S → Option (List ℕ))
   passed_front (Ok x) h = tt
   passed_front (Err e) h = front_taken none_held (subst (λ t. Loses contents device first t g) (append-nil bytes) (loses_behind came h.0))
 
-  pub passed_refused : (c : Config) (limit : Option ℕ) (d : Data) (r : Result (Unit {0}) Error) → Passed r → IfErr r (RefusesSink (failed (sink_of g)) c limit d)
+  pub passed_refused : (c : Config) (limit : Option ℕ) (d : Data) (r : Result (Unit {0}) Error) → Passed r
+      → IfErr r (RefusesSink (failed (sink_of g)) c limit d)
   passed_refused c limit d (Ok x) h = tt
   passed_refused c limit d (Err e) h = (device_refuses_sink (failed (sink_of g)) c limit d e h.1).0
 

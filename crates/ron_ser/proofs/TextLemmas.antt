@@ -23,7 +23,8 @@ Left s bytes t = string_bytes t ≡ string_bytes s
 abbrev pub Lacks : String Global → Error → Type 0
 Lacks s e = e ≡ OutOfMemory
 
-pub text_refused : (c : Config) (limit : Option ℕ) (d : Data) {s t : String Global} {bytes : List ℕ} {e : Error} → StopsText Took Left Lacks (RefusesData c limit d) s bytes t e → RefusesText c limit d e × HoldsName (first_refused d) e
+pub text_refused : (c : Config) (limit : Option ℕ) (d : Data) {s t : String Global} {bytes : List ℕ} {e : Error}
+    → StopsText Took Left Lacks (RefusesData c limit d) s bytes t e → RefusesText c limit d e × HoldsName (first_refused d) e
 text_refused c limit d {e = e} h = elim h [
   | inl k ↦ (writing_refuses_text c limit d e k.0.0, k.0.1)
   | inr k ↦ subst (λ e. RefusesText c limit d e × HoldsName (first_refused d) e) (sym k.0) (tt, tt)

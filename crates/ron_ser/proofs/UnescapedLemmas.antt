@@ -1,5 +1,6 @@
 -- Quotes, backslashes and runs of hashes in a text: for `unescaped.rt`.
-use Rattle.std.proofs.Common.{◌≡◌, ℕ, suc, ◌+◌, ◌≤◌, ◌==◌, max, true, false, not, ◌||◌, cond, List, [], ◌∷◌, ◌++◌, codes, length, chars, encode_utf8_all, IsUtf8, refl, sym, ap, ap₂, ◌∙◌, arith}
+use Rattle.std.proofs.Common.{◌≡◌, ℕ, suc, ◌+◌, ◌≤◌, ◌==◌, max, true, false, not, ◌||◌, cond, List, [], ◌∷◌, ◌++◌, codes, length, chars, encode_utf8_all}
+use Rattle.std.proofs.Common.{IsUtf8, refl, sym, ap, ap₂, ◌∙◌, arith}
 use Rattle.std.proofs.lemmas.Str.{encodes-chars}
 use Rattle.std.specs.Ordering.{ord_max, nat_cmp}
 use Rattle.std.proofs.lemmas.Bool.Decides.{nat_tests}
@@ -14,7 +15,8 @@ use Rattle.ron_spec_layout.proofs.Bytes.{bytes-plain, bytes-raw}
 -- What stands behind the characters that may stand between quotes is nothing, exactly where none of the two does.
 pub needs_raw_is : (t : Text) → not (is_ended (after_run (in_class Plain) t)) ≡ needs_raw t
 needs_raw_is [] = refl
-needs_raw_is (c ∷ t) = elim ((c == 34) || (c == 92)) as (λ b. not (is_ended (cond (not b) (after_run (in_class Plain) t) (c ∷ t))) ≡ (b || needs_raw t)) [ true ↦ refl | false ↦ needs_raw_is t ]
+needs_raw_is (c ∷ t) = elim ((c == 34) || (c == 92))
+    as (λ b. not (is_ended (cond (not b) (after_run (in_class Plain) t) (c ∷ t))) ≡ (b || needs_raw t)) [ true ↦ refl | false ↦ needs_raw_is t ]
 
 -- ---- the longest run of hashes
 
@@ -34,18 +36,21 @@ abbrev pub LongestIs : ℕ → ℕ → ℕ → Text → Type 0
 LongestIs n longest run t = (run ≤ longest) × (n ≡ max longest (max (run + length (run_of (λ d. d == 35) t)) (longest_hashes t)))
 
 -- behind a hash
-pub longest_more : (n longest run more at : ℕ) (c : ℕ) (text t : Text) → LongestIs n longest run text → text ≡ c ∷ t → c ≡ 35 → more ≡ run + 1 → at ≡ ord_max nat_cmp longest more → LongestIs n at more t
+pub longest_more : (n longest run more at : ℕ) (c : ℕ) (text t : Text) → LongestIs n longest run text → text ≡ c ∷ t → c ≡ 35 → more ≡ run + 1
+    → at ≡ ord_max nat_cmp longest more → LongestIs n at more t
 longest_more n longest run more at c text t k e h m q =
     let f = first_run t in
     let big : at ≡ max longest more = q ∙ greater longest more in
-    let is : n ≡ max longest (max (run + suc (length (run_of (λ d. d == 35) t))) (max (suc (length (run_of (λ d. d == 35) t))) (longest_hashes t))) = k.1 ∙ rw (e, h) refl in
+    let is : n ≡ max longest (max (run + suc (length (run_of (λ d. d == 35) t))) (max (suc (length (run_of (λ d. d == 35) t))) (longest_hashes t))) =
+    k.1 ∙ rw (e, h) refl in
     (omega (arith, big), omega (arith, big, is, f, m))
 
 other : (c : ℕ) → (c ≡ 35 → ⊥) → (c == 35) ≡ false
 other c h = grind (arith, nat_tests)
 
 -- behind another character
-pub longest_other : (n longest run more at : ℕ) (c : ℕ) (text t : Text) → LongestIs n longest run text → text ≡ c ∷ t → (c ≡ 35 → ⊥) → more ≡ 0 → at ≡ ord_max nat_cmp longest more → LongestIs n at more t
+pub longest_other : (n longest run more at : ℕ) (c : ℕ) (text t : Text) → LongestIs n longest run text → text ≡ c ∷ t → (c ≡ 35 → ⊥) → more ≡ 0
+    → at ≡ ord_max nat_cmp longest more → LongestIs n at more t
 longest_other n longest run more at c text t k e h m q =
     let f = first_run t in
     let big : at ≡ max longest more = q ∙ greater longest more in

@@ -22,7 +22,8 @@ use Rattle.ron_ser.specs.Piece.{Piece, value_piece, values_text, values_piece, e
 use Rattle.ron_ser.proofs.DataLemmas.{with_bytes, layout_at}
 
 -- what the piece of a value of code is, from its tree
-pub tree_seen : (p : Place) (bare : Bool) {v w : Value} {t : Tree} {q : Piece} → v ≡ w → tree_of w ≡ t → value_piece p bare (value_of t) ≡ q → value_piece p bare (value_of (tree_of v)) ≡ q
+pub tree_seen : (p : Place) (bare : Bool) {v w : Value} {t : Tree} {q : Piece} → v ≡ w → tree_of w ≡ t → value_piece p bare (value_of t) ≡ q
+    → value_piece p bare (value_of (tree_of v)) ≡ q
 tree_seen p bare i e q = ap (λ v. value_piece p bare (value_of (tree_of v))) i ∙ ap (λ t. value_piece p bare (value_of t)) e ∙ q
 
 module _ (p : Place) (bare : Bool) where
@@ -36,15 +37,23 @@ module _ (p : Place) (bare : Bool) where
   unfolding layout_within value_layout
   value_number_piece w n = ap plain (bytes-number p.config.number_suffixes w n)
 
-  pub value_character_piece : (c : ℕ) → value_piece p bare (value_of (tree.character c)) ≡ record { bytes = encode_utf8_all (written_char c); names = true; refused = None; depth = 0; encodable = scalar c }
+  pub value_character_piece : (c : ℕ) → value_piece p bare (value_of (tree.character c))
+      ≡ record { bytes = encode_utf8_all (written_char c); names = true; refused = None; depth = 0; encodable = scalar c }
   unfolding layout_within value_layout
   value_character_piece c = refl
 
-  pub value_text_piece : (bs : List ℕ) → value_piece p bare (value_of (tree.text bs)) ≡ record { bytes = encode_utf8_all (string_text p.config.escape_strings (chars bs)); names = true; refused = None; depth = 0; encodable = is_utf8 bs }
+  pub value_text_piece : (bs : List ℕ) → value_piece p bare (value_of (tree.text bs))
+      ≡ record { bytes = encode_utf8_all (string_text p.config.escape_strings (chars bs)); names = true; refused = None; depth = 0; encodable = is_utf8 bs }
   unfolding layout_within value_layout
   value_text_piece bs = refl
 
-  pub value_bytes_piece : (bs : List ℕ) → value_piece p bare (value_of (tree.bytes bs)) ≡ record { bytes = encode_utf8_all (bytes_text p.config.escape_strings bs); names = true; refused = None; depth = 0; encodable = list_all (λ b. nat_lt b 256) bs }
+  pub value_bytes_piece : (bs : List ℕ) → value_piece p bare (value_of (tree.bytes bs)) ≡ record {
+    bytes = encode_utf8_all (bytes_text p.config.escape_strings bs);
+    names = true;
+    refused = None;
+    depth = 0;
+    encodable = list_all (λ b. nat_lt b 256) bs;
+  }
   unfolding layout_within value_layout
   value_bytes_piece bs = refl
 
@@ -68,27 +77,35 @@ module _ (p : Place) (bare : Bool) where
 
   -- ---- Somes
 
-  some_text : p.extensions.implicit_some ≡ false → (t : Tree) → layout_at p bare (value_of (tree.some t)) ≡ in_some (layout_at p p.extensions.unwrap_variant_newtypes (value_of t))
+  some_text : p.extensions.implicit_some ≡ false → (t : Tree)
+      → layout_at p bare (value_of (tree.some t)) ≡ in_some (layout_at p p.extensions.unwrap_variant_newtypes (value_of t))
   unfolding layout_within value_layout
-  some_text e t = ap (λ s. cond s (value_layout p.config p.extensions p.level bare 1 t) (in_some (value_layout p.config p.extensions p.level p.extensions.unwrap_variant_newtypes 0 t))) e
+  some_text e t = ap (λ s. cond s (value_layout p.config p.extensions p.level bare 1 t)
+      (in_some (value_layout p.config p.extensions p.level p.extensions.unwrap_variant_newtypes 0 t))) e
 
-  pub value_some_piece : p.extensions.implicit_some ≡ false → (t : Tree) → value_piece p bare (value_of (tree.some t)) ≡ enclosed (codes "Some(") (deeper (value_piece p p.extensions.unwrap_variant_newtypes (value_of t))) (codes ")")
+  pub value_some_piece : p.extensions.implicit_some ≡ false → (t : Tree) → value_piece p bare (value_of (tree.some t))
+      ≡ enclosed (codes "Some(") (deeper (value_piece p p.extensions.unwrap_variant_newtypes (value_of t))) (codes ")")
   value_some_piece e t =
       ap (with_bytes (deeper (value_piece p bare (value_of t))))
-      (ap encode_utf8_all (some_text e t) ∙ bytes-enclosed (codes "Some(") (codes ")") (layout_at p p.extensions.unwrap_variant_newtypes (value_of t)) refl refl)
+      (ap encode_utf8_all (some_text e t)
+      ∙ bytes-enclosed (codes "Some(") (codes ")") (layout_at p p.extensions.unwrap_variant_newtypes (value_of t)) refl refl)
 
-  kept_text : p.extensions.implicit_some ≡ true → (t : Tree) → value_keeps t ≡ true → layout_at p bare (value_of (tree.some t)) ≡ in_some (layout_at p bare (value_of t))
+  kept_text : p.extensions.implicit_some ≡ true → (t : Tree) → value_keeps t ≡ true
+      → layout_at p bare (value_of (tree.some t)) ≡ in_some (layout_at p bare (value_of t))
   unfolding layout_within
   kept_text e t k = some_laid p.config p.extensions p.level p.docs e bare 0 t ∙ value_kept p.config p.extensions p.level p.docs e t bare 1 k
 
-  pub value_kept_piece : p.extensions.implicit_some ≡ true → (t : Tree) → value_keeps t ≡ true → value_piece p bare (value_of (tree.some t)) ≡ enclosed (codes "Some(") (deeper (value_piece p bare (value_of t))) (codes ")")
+  pub value_kept_piece : p.extensions.implicit_some ≡ true → (t : Tree) → value_keeps t ≡ true
+      → value_piece p bare (value_of (tree.some t)) ≡ enclosed (codes "Some(") (deeper (value_piece p bare (value_of t))) (codes ")")
   value_kept_piece e t k =
       ap (with_bytes (deeper (value_piece p bare (value_of t))))
       (ap encode_utf8_all (kept_text e t k) ∙ bytes-enclosed (codes "Some(") (codes ")") (layout_at p bare (value_of t)) refl refl)
 
-  dropped_text : p.extensions.implicit_some ≡ true → (t : Tree) → value_keeps t ≡ false → layout_at p bare (value_of (tree.some t)) ≡ layout_at p bare (value_of t)
+  dropped_text : p.extensions.implicit_some ≡ true → (t : Tree) → value_keeps t ≡ false
+      → layout_at p bare (value_of (tree.some t)) ≡ layout_at p bare (value_of t)
   unfolding layout_within
   dropped_text e t k = some_laid p.config p.extensions p.level p.docs e bare 0 t ∙ value_dropped p.config p.extensions p.level p.docs e t bare 1 k
 
-  pub value_dropped_piece : p.extensions.implicit_some ≡ true → (t : Tree) → value_keeps t ≡ false → value_piece p bare (value_of (tree.some t)) ≡ deeper (value_piece p bare (value_of t))
+  pub value_dropped_piece : p.extensions.implicit_some ≡ true → (t : Tree) → value_keeps t ≡ false
+      → value_piece p bare (value_of (tree.some t)) ≡ deeper (value_piece p bare (value_of t))
   value_dropped_piece e t k = ap (with_bytes (deeper (value_piece p bare (value_of t)))) (ap encode_utf8_all (dropped_text e t k))

@@ -67,29 +67,36 @@ module _ (p : Place) where
   listed = inside container.List p
 
   -- each behind its comment
-  numbered_from : (k : ℕ) (vs : List Value) → laid_from (before_item (spacing_in p container.List)) k (value_texts listed.config listed.extensions listed.level k (items_from (map tree_of vs))) ≡ laid_from (before_numbered p.config listed.level (spacing_in p container.List)) k (map (held_text listed) vs)
+  numbered_from : (k : ℕ) (vs : List Value) → laid_from (before_item (spacing_in p container.List)) k (value_texts listed.config listed.extensions listed.level
+      k (items_from (map tree_of vs))) ≡ laid_from (before_numbered p.config listed.level (spacing_in p container.List)) k (map (held_text listed) vs)
   unfolding layout_within value_layout
   numbered_from k [] = refl
   numbered_from k (v ∷ vs) =
       let s = spacing_in p container.List in
-      ap (λ u. u ++ laid_from (before_item s) (suc k) (value_texts listed.config listed.extensions listed.level (suc k) (items_from (map tree_of vs)))) (sym (append_assoc (before_item s k) (item_comment p.config listed.level k) (held_text listed v)))
+      ap (λ u. u ++ laid_from (before_item s) (suc k) (value_texts listed.config listed.extensions listed.level (suc k) (items_from (map tree_of vs))))
+      (sym (append_assoc (before_item s k) (item_comment p.config listed.level k) (held_text listed v)))
       ∙ ap (λ u. ((before_item s k ++ item_comment p.config listed.level k) ++ held_text listed v) ++ u) (numbered_from (suc k) vs)
 
-  behind_values : (vs : List Value) → behind_items (spacing_in p container.List) (value_texts listed.config listed.extensions listed.level 0 (items_from (map tree_of vs))) ≡ behind_items (spacing_in p container.List) (map (held_text listed) vs)
+  behind_values : (vs : List Value) → behind_items (spacing_in p container.List) (value_texts listed.config listed.extensions listed.level 0
+      (items_from (map tree_of vs))) ≡ behind_items (spacing_in p container.List) (map (held_text listed) vs)
   unfolding layout_within value_layout
   behind_values [] = refl
   behind_values (v ∷ vs) = refl
 
-  laid_values : (vs : List Value) → values_text p (items_from (map tree_of vs)) ≡ laid_from (before p container.List) 0 (map (held_text listed) vs) ++ behind_items (spacing_in p container.List) (map (held_text listed) vs)
+  laid_values : (vs : List Value) → values_text p (items_from (map tree_of vs))
+      ≡ laid_from (before p container.List) 0 (map (held_text listed) vs) ++ behind_items (spacing_in p container.List) (map (held_text listed) vs)
   laid_values vs =
       let s = spacing_in p container.List in
       let ts = value_texts listed.config listed.extensions listed.level 0 (items_from (map tree_of vs)) in
-      ap (spaced s) (values_inside p container.List 0 (items_from (map tree_of vs))) ∙ spaced_is s ts ∙ ap (λ u. u ++ behind_items s ts) (numbered_from 0 vs ∙ numbered_in p (map (held_text listed) vs)) ∙ ap (λ u. laid_from (before p container.List) 0 (map (held_text listed) vs) ++ u) (behind_values vs)
+      ap (spaced s) (values_inside p container.List 0 (items_from (map tree_of vs))) ∙ spaced_is s ts
+      ∙ ap (λ u. u ++ behind_items s ts) (numbered_from 0 vs ∙ numbered_in p (map (held_text listed) vs))
+      ∙ ap (λ u. laid_from (before p container.List) 0 (map (held_text listed) vs) ++ u) (behind_values vs)
 
   pub values_row : (vs : List Value) → values_piece p (items_from (map tree_of vs)) ≡ row_in p container.List (held_piece (inside container.List p)) vs
   unfolding ended
   values_row vs =
-      same_piece _ _ _ _ _ _ _ _ _ _ (ap encode_utf8_all (laid_values vs) ∙ laid_bytes p container.List (held_text listed) (λ v. (held_piece listed v).bytes) (λ v. refl) vs) (all_true vs) (none_first vs) (item_depth vs) (item_encodable vs)
+      same_piece _ _ _ _ _ _ _ _ _ _ (ap encode_utf8_all (laid_values vs) ∙ laid_bytes p container.List (held_text listed) (λ v. (held_piece listed v).bytes)
+      (λ v. refl) vs) (all_true vs) (none_first vs) (item_depth vs) (item_encodable vs)
 
 -- ---- keys and values
 
@@ -123,7 +130,10 @@ module _ (p : Place) where
   pub entries_row : (es : Entries) → entries_piece p (pairs_from (map pair_tree es)) ≡ row_in p container.Map (entry_piece (inside container.Map p)) es
   unfolding keyed ended
   entries_row es =
-      let laid : entries_text p (pairs_from (map pair_tree es)) ≡ laid_from (before p container.Map) 0 (map (entry_text there) es) ++ behind_items (spacing_in p container.Map) (map (entry_text there) es) = ap (spaced (spacing_in p container.Map)) (entries_inside p container.Map (pairs_from (map pair_tree es)) ∙ entries_are es) ∙ spaced_in p container.Map refl (map (entry_text there) es) in
+      let laid : entries_text p (pairs_from (map pair_tree es)) ≡ laid_from (before p container.Map) 0 (map (entry_text there) es)
+      ++ behind_items (spacing_in p container.Map) (map (entry_text there) es) = ap (spaced (spacing_in p container.Map))
+      (entries_inside p container.Map (pairs_from (map pair_tree es)) ∙ entries_are es) ∙ spaced_in p container.Map refl (map (entry_text there) es) in
       same_piece _ _ _ _ _ _ _ _ _ _
-      (ap encode_utf8_all laid ∙ laid_bytes p container.Map (entry_text there) (λ e. (entry_piece there e).bytes) (λ e. bytes-pair there.config there.extensions there.level there.docs (held_data e.0) (held_data e.1)) es)
+      (ap encode_utf8_all laid ∙ laid_bytes p container.Map (entry_text there) (λ e. (entry_piece there e).bytes)
+      (λ e. bytes-pair there.config there.extensions there.level there.docs (held_data e.0) (held_data e.1)) es)
       (all_true es) (none_first es) (entry_depth es) (entry_encodable es)

@@ -5,7 +5,8 @@ use Rattle.std.specs.Str.{encode_utf8_all}
 use Rattle.ron_spec_words.specs.Characters.{Text}
 use Rattle.ron_value.specs.Tree as tree
 use Rattle.ron_spec_grammar.specs.Data.{Data, Datas, Pairs, Fields}
-use Rattle.ron_spec_layout.specs.Name.{names_ok, all_names_ok, pair_names_ok, field_names_ok, first_refused, first_refused_among, first_refused_in_pairs, first_refused_of}
+use Rattle.ron_spec_layout.specs.Name.{names_ok, all_names_ok, pair_names_ok, field_names_ok, first_refused, first_refused_among, first_refused_in_pairs}
+use Rattle.ron_spec_layout.specs.Name.{first_refused_of}
 use Rattle.ron_spec_layout.specs.Config.{spacing, inner_level, spaced}
 use Rattle.ron_spec_layout.specs.Layout.{value_texts, entry_texts, numbered_texts, item_texts, pair_texts, field_texts}
 use Rattle.ron_spec_layout.specs.Bytes.{name_bytes}
@@ -23,7 +24,8 @@ use Rattle.ron_ser.specs.declared.container.Container.TheVariants as container
 use Rattle.ron_base_device.specs.Begun.{HasBegun}
 use Rattle.ron_ser.specs.Place.{Place, is_compact, spacing_in}
 
--- A piece of the text: its bytes, whether the names in it can be written, the first that cannot, how deep a writer goes for it, and whether it is of what code can hold.
+-- A piece of the text: its bytes, whether the names in it can be written, the first that cannot, how deep a writer goes for it, and whether it is of what code
+-- can hold.
 pub record Piece : Type 0 where
   pub bytes : List ℕ
   pub names : Bool
@@ -53,7 +55,8 @@ Tries took limit w p v result = MatchResult result (λ _. IsWritten took limit w
 
 -- the items of a list, which are numbered, or of a tuple
 abbrev pub items_text : Place → Container → Datas → Text
-items_text p container.List ds = spaced (spacing_in p container.List) (numbered_texts p.config p.extensions (inner_level p.config.compact_arrays p.level) p.docs 0 ds)
+items_text p container.List ds =
+    spaced (spacing_in p container.List) (numbered_texts p.config p.extensions (inner_level p.config.compact_arrays p.level) p.docs 0 ds)
 items_text p k ds = spaced (spacing_in p k) (item_texts p.config p.extensions (inner_level (is_compact p.config k) p.level) p.docs ds)
 
 -- the keys of a map with their values
@@ -62,7 +65,8 @@ pairs_text p ps = spaced (spacing_in p container.Map) (pair_texts p.config p.ext
 
 -- the fields of a struct
 abbrev pub fields_text : Place → Fields → Text
-fields_text p fields = spaced (spacing p.config p.config.compact_structs p.level) (field_texts p.config p.extensions (inner_level p.config.compact_structs p.level) p.docs fields)
+fields_text p fields =
+    spaced (spacing p.config p.config.compact_structs p.level) (field_texts p.config p.extensions (inner_level p.config.compact_structs p.level) p.docs fields)
 
 -- the items of a value without a schema, and its keys with their values
 abbrev pub values_text : Place → tree.Items → Text
@@ -75,27 +79,63 @@ entries_text p ps = spaced (spacing_in p container.Map) (entry_texts p.config p.
 
 -- data, bare or not. Code can hold a Some in a value, also where the text leaves it out.
 abbrev pub value_piece : Place → Bool → Data → Piece
-value_piece p bare d = record { bytes = layout_bytes p.config p.extensions p.level p.docs bare d; names = names_ok d; refused = first_refused d; depth = writer_depth p.config d; encodable = is_encodable false d }
+value_piece p bare d = record {
+  bytes = layout_bytes p.config p.extensions p.level p.docs bare d;
+  names = names_ok d;
+  refused = first_refused d;
+  depth = writer_depth p.config d;
+  encodable = is_encodable false d;
+}
 
 -- what stands in its brackets: items
 abbrev pub items_piece : Place → Container → Datas → Piece
-items_piece p k ds = record { bytes = encode_utf8_all (items_text p k ds); names = all_names_ok ds; refused = first_refused_among ds; depth = items_writer_depth p.config ds; encodable = items_encodable false ds }
+items_piece p k ds = record {
+  bytes = encode_utf8_all (items_text p k ds);
+  names = all_names_ok ds;
+  refused = first_refused_among ds;
+  depth = items_writer_depth p.config ds;
+  encodable = items_encodable false ds;
+}
 
 -- keys and values
 abbrev pub pairs_piece : Place → Pairs → Piece
-pairs_piece p ps = record { bytes = encode_utf8_all (pairs_text p ps); names = pair_names_ok ps; refused = first_refused_in_pairs ps; depth = pairs_writer_depth p.config ps; encodable = pairs_encodable false ps }
+pairs_piece p ps = record {
+  bytes = encode_utf8_all (pairs_text p ps);
+  names = pair_names_ok ps;
+  refused = first_refused_in_pairs ps;
+  depth = pairs_writer_depth p.config ps;
+  encodable = pairs_encodable false ps;
+}
 
 -- fields
 abbrev pub fields_piece : Place → Fields → Piece
-fields_piece p fields = record { bytes = encode_utf8_all (fields_text p fields); names = field_names_ok fields; refused = first_refused_of fields; depth = fields_writer_depth p.config fields; encodable = are_encodable false fields }
+fields_piece p fields = record {
+  bytes = encode_utf8_all (fields_text p fields);
+  names = field_names_ok fields;
+  refused = first_refused_of fields;
+  depth = fields_writer_depth p.config fields;
+  encodable = are_encodable false fields;
+}
 
 -- the items of a value without a schema: no names stand in them
 abbrev pub values_piece : Place → tree.Items → Piece
-values_piece p ts = record { bytes = encode_utf8_all (values_text p ts); names = true; refused = None; depth = values_writer_depth ts; encodable = values_encodable false ts }
+values_piece p ts = record {
+  bytes = encode_utf8_all (values_text p ts);
+  names = true;
+  refused = None;
+  depth = values_writer_depth ts;
+  encodable = values_encodable false ts;
+}
 
 -- its keys and values
 abbrev pub entries_piece : Place → tree.Pairs → Piece
-entries_piece p ps = record { bytes = encode_utf8_all (entries_text p ps); names = true; refused = None; depth = entries_writer_depth ps; encodable = entries_encodable false ps }
+entries_piece p ps = record {
+  bytes = encode_utf8_all (entries_text p ps);
+  names = true;
+  refused = None;
+  depth = entries_writer_depth ps;
+  encodable = entries_encodable false ps;
+}
 
 -- ---- what is made of them
 

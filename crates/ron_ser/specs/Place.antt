@@ -58,7 +58,12 @@ spacing_in p k = spacing p.config (is_compact p.config k) p.level
 
 -- where they stand
 abbrev pub inside : Container → Place → Place
-inside k p = record { config = p.config; extensions = p.extensions; level = if is_compact p.config k then p.level else next_level p.config.depth_limit p.level; docs = p.docs }
+inside k p = record {
+  config = p.config;
+  extensions = p.extensions;
+  level = if is_compact p.config k then p.level else next_level p.config.depth_limit p.level;
+  docs = p.docs;
+}
 
 -- where the value of a field stands
 abbrev pub within : Text → Place → Place

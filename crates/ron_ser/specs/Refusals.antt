@@ -13,7 +13,8 @@ use Rattle.ron_base.specs.declared.error.Error.{Error}
 use Rattle.ron_base.specs.declared.error.Error.TheVariants.{Io, Message, InvalidIdentifier, ExceededRecursionLimit, OutOfMemory}
 use Rattle.ron_base.specs.Limit.{IsWithin}
 
--- A name is refused where the names cannot be written, and then memory for the error may not be found; the depth where it is not within the limit. Nothing else is refused.
+-- A name is refused where the names cannot be written, and then memory for the error may not be found; the depth where it is not within the limit. Nothing else
+-- is refused.
 abbrev pub Refuses : Bool → Type 0 → Error → Type 0
 Refuses names Within OutOfMemory = names ≡ false
 Refuses names Within (InvalidIdentifier given) = names ≡ false
@@ -41,7 +42,8 @@ IsMessageOr message _ = ⊥
 
 -- the name of the first text of a configuration that holds anything but blanks
 abbrev pub first_filled : Config → List ℕ
-first_filled c = if not (list_all is_blank c.new_line) then codes "new_line" else (if not (list_all is_blank c.indentor) then codes "indentor" else codes "separator")
+first_filled c =
+    if not (list_all is_blank c.new_line) then codes "new_line" else (if not (list_all is_blank c.indentor) then codes "indentor" else codes "separator")
 
 -- A text of the configuration is not blank, and the error names the first such; or no memory is found for it.
 abbrev pub RefusesBlank : Config → Error → Type 0

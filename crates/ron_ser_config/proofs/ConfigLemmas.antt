@@ -31,7 +31,8 @@ unfolding chars
 space-chars = refl
 
 pub view-copied : (c : PrettyConfig) (new_line indentor separator : CowStr Global) (meta : Option Field)
-    → cow_str_bytes new_line ≡ cow_str_bytes c.new_line → cow_str_bytes indentor ≡ cow_str_bytes c.indentor → cow_str_bytes separator ≡ cow_str_bytes c.separator
+    → cow_str_bytes new_line ≡ cow_str_bytes c.new_line → cow_str_bytes indentor ≡ cow_str_bytes c.indentor
+    → cow_str_bytes separator ≡ cow_str_bytes c.separator
     → meta_tree meta ≡ meta_tree c.path_meta
     → config_view (record c { new_line = new_line; indentor = indentor; separator = separator; path_meta = meta }) ≡ config_view c
 view-copied c new_line indentor separator meta n i s m =

@@ -15,7 +15,8 @@ use Rattle.ron_spec_layout.specs.Docs.{doc_of, docs_within}
 use Rattle.ron_ser_config.specs.declared.path_meta.field.Field.{Field}
 use Rattle.ron_ser_config.specs.declared.path_meta.fields.Fields.{Fields}
 use Rattle.ron_ser_config.specs.Tree.{FieldTree, field_from, fields_from}
-use Rattle.ron_ser_config.specs.View.{doc_bytes, fields_within, Entries, entry_tree, field_tree, fields_tree, doc_in, docs_in, docs_under, docs_of, doc_told, docs_below, meta_tree}
+use Rattle.ron_ser_config.specs.View.{doc_bytes, fields_within, Entries, entry_tree, field_tree, fields_tree, doc_in, docs_in, docs_under, docs_of, doc_told}
+use Rattle.ron_ser_config.specs.View.{docs_below, meta_tree}
 use Rattle.ron_ser_config.specs.Entries.{name_cmp, field_at}
 use Rattle.ron_ser_config.proofs.FieldTrees.{field_tree-is}
 
@@ -51,17 +52,20 @@ docs_below-is (Some f) = sym (docs_under-is f)
 same_name : (text : List ℕ) (name : String Global) → IsUtf8 text → same_text (chars (string_bytes name)) (chars text) ≡ is_eq (name_cmp text name)
 same_name text name u =
     let by_chars = bytes_eq-Decides (chars (string_bytes name)) (chars text) in
-    let back = λ (same : chars text ≡ chars (string_bytes name)). sym (encodes-chars text u) ∙ ap encode_utf8_all same ∙ encodes-chars (string_bytes name) (IsUtf8-string_bytes name) in
+    let back = λ (same : chars text ≡ chars (string_bytes name)). sym (encodes-chars text u) ∙ ap encode_utf8_all same
+    ∙ encodes-chars (string_bytes name) (IsUtf8-string_bytes name) in
     same_from_decides {P = text ≡ string_bytes name} (same_text (chars (string_bytes name)) (chars text)) (is_eq (name_cmp text name))
     (λ t. back (sym (by_chars.0 t)), λ same. by_chars.1 (ap chars (sym same)))
-    (Decides-at (is_eq (name_cmp text name)) (bytes_eq text (string_bytes name)) (is_eq-slice_cmp text (string_bytes name)) (bytes_eq-Decides text (string_bytes name)))
+    (Decides-at (is_eq (name_cmp text name)) (bytes_eq text (string_bytes name)) (is_eq-slice_cmp text (string_bytes name))
+    (bytes_eq-Decides text (string_bytes name)))
 
 module _ (text : List ℕ) (u : IsUtf8 text) where
   pub doc_at : (es : Entries) → doc_of (docs_in (fields_from (map entry_tree es))) (chars text) ≡ doc_told (field_at text es)
   doc_at [] = refl
   doc_at (e ∷ es) =
       let rest = doc_of (docs_in (fields_from (map entry_tree es))) (chars text) in
-      rw (same_name text e.0 u) (elim (is_eq (name_cmp text e.0)) as (λ b. cond b (chars (doc_in (field_tree e.1))) rest ≡ doc_told (cond b (Some e.1) (field_at text es))) [
+      rw (same_name text e.0 u) (elim (is_eq (name_cmp text e.0))
+      as (λ b. cond b (chars (doc_in (field_tree e.1))) rest ≡ doc_told (cond b (Some e.1) (field_at text es))) [
         | true ↦ ap chars (doc_in-is e.1)
         | false ↦ doc_at es
       ])
@@ -70,7 +74,8 @@ module _ (text : List ℕ) (u : IsUtf8 text) where
   docs_at [] = refl
   docs_at (e ∷ es) =
       let rest = docs_within (docs_in (fields_from (map entry_tree es))) (chars text) in
-      rw (same_name text e.0 u) (elim (is_eq (name_cmp text e.0)) as (λ b. cond b (docs_under (field_tree e.1)) rest ≡ docs_below (cond b (Some e.1) (field_at text es))) [
+      rw (same_name text e.0 u) (elim (is_eq (name_cmp text e.0))
+      as (λ b. cond b (docs_under (field_tree e.1)) rest ≡ docs_below (cond b (Some e.1) (field_at text es))) [
         | true ↦ docs_under-is e.1
         | false ↦ docs_at es
       ])

@@ -11,7 +11,8 @@ use Rattle.ron_ser_config.specs.Tree.{FieldTree, field_from, FieldsTree, field_a
 use Rattle.ron_ser_config.specs.Same.{same_field, same_fields}
 use Rattle.ron_ser_config.specs.View.{doc_bytes, fields_within, Entries, entries, entry_tree, field_step, fields_step, field_tree, fields_tree}
 
-folded : (es : Entries) → fields_from (map (λ (e : String Global × FieldTree). (string_bytes e.0, e.1)) (map (λ (e : String Global × Field). (e.0, field_tree e.1)) es)) ≡ fields_from (map entry_tree es)
+folded : (es : Entries) → fields_from (map (λ (e : String Global × FieldTree). (string_bytes e.0, e.1))
+    (map (λ (e : String Global × Field). (e.0, field_tree e.1)) es)) ≡ fields_from (map entry_tree es)
 folded [] = refl
 folded (e ∷ es) = ap (λ (rest : FieldsTree). field_and (string_bytes e.0) (field_tree e.1) rest) (folded es)
 
@@ -21,7 +22,8 @@ folded_fields = fold-Fields FieldTree FieldsTree field_step fields_step
 fields-folded : (fs : Fields) → folded_fields fs ≡ fields_tree fs
 fields-folded fs = fold_out-Fields FieldTree FieldsTree field_step fields_step fs ∙ folded (entries fs)
 
-one_level : (doc : String Global) (o : Option Fields) → field_step (map-Field Field Fields FieldTree FieldsTree field_tree folded_fields (record { doc = doc; fields = o })) ≡ field_from (string_bytes doc) (option_map fields_tree o)
+one_level : (doc : String Global) (o : Option Fields) → field_step (map-Field Field Fields FieldTree FieldsTree field_tree folded_fields
+    (record { doc = doc; fields = o })) ≡ field_from (string_bytes doc) (option_map fields_tree o)
 one_level doc None = refl
 one_level doc (Some fs) = ap (λ (t : FieldsTree). field_from (string_bytes doc) (Some t)) (fields-folded fs)
 

@@ -29,7 +29,8 @@ mutual
   same_fields-is (field_and n f fs) no_fields t = absurd (cc)
   same_fields-is (field_and n f fs) (field_and m g gs) t =
       let rest = right (bytes_eq n m) (same_field f g && same_fields fs gs) t in
-      λ i. field_and ((bytes_decides n m).0 (left (bytes_eq n m) (same_field f g && same_fields fs gs) t) i) (same_field-is f g (left (same_field f g) (same_fields fs gs) rest) i) (same_fields-is fs gs (right (same_field f g) (same_fields fs gs) rest) i)
+      λ i. field_and ((bytes_decides n m).0 (left (bytes_eq n m) (same_field f g && same_fields fs gs) t) i)
+      (same_field-is f g (left (same_field f g) (same_fields fs gs) rest) i) (same_fields-is fs gs (right (same_field f g) (same_fields fs gs) rest) i)
 
 mutual
   pub same_field-itself : (s : FieldTree) → same_field s s ≡ true

@@ -40,7 +40,8 @@ module _ {A : Type 0} {r : ℕ → Reader A} {L : ℕ → Lang A} (h : AreLevels
       go (inl e) = sym e ∙ place_complete m t next a z f
       go (inr e) = absurd (let k = place_complete m t next a z f in let w : failed deep ≡ got a next = sym e ∙ k in cc)
 
-  pub place_unique : (m n : ℕ) (t next u other : Text) (a b : A) → t ++ next ≡ u ++ other → L m t next a → FollowsValue next → L n u other b → FollowsValue other → (t ≡ u) × (a ≡ b)
+  pub place_unique : (m n : ℕ) (t next u other : Text) (a b : A) → t ++ next ≡ u ++ other → L m t next a → FollowsValue next → L n u other b
+      → FollowsValue other → (t ≡ u) × (a ≡ b)
   place_unique m n t next u other a b split y f z g = (append_cancel_right t u other (ap (λ k. t ++ k) (sym same.1) ∙ split), same.0)
     where
       answers : got a next ≡ got b other

@@ -1,5 +1,6 @@
 -- Attributes and heads are read exactly where they stand.
-use Rattle.std.proofs.Common.{◌≡◌, ℕ, zero, suc, ◌≤◌, ◌<◌, Bool, true, false, cond, List, [], ◌∷◌, ◌++◌, length, codes, Some, refl, sym, ap, subst, ◌∙◌, arith, length-append}
+use Rattle.std.proofs.Common.{◌≡◌, ℕ, zero, suc, ◌≤◌, ◌<◌, Bool, true, false, cond, List, [], ◌∷◌, ◌++◌, length, codes, Some, refl, sym, ap, subst, ◌∙◌, arith}
+use Rattle.std.proofs.Common.{length-append}
 use Rattle.ron_spec_words.specs.Characters.{Text, hash, exclamation_mark, equals_sign, left_parenthesis, right_parenthesis, left_bracket, right_bracket}
 use Rattle.ron_spec_words.specs.Runs.{is_at}
 use Rattle.ron_spec_words.specs.Gap.{LongGap, skip, gap_of}
@@ -33,17 +34,20 @@ part_enable : Part 0 0 true AnyValue enable enable Enable Anything 0
 part_enable =
     part_behind (word_fixed (codes "enable") done) (record { holds = λ t next u z. rw z.same refl }) (passes_fixed (codes "enable") done plain_words.4)
     (λ _. part_group left_parenthesis right_parenthesis 0 refl refl
-    (λ gap. part_means together (λ _ _ _ _. tt) (part_items _ _ (λ _ _. Means Name extension_of_name) right_parenthesis refl refl (λ _ _. first_means name_solid) (λ _ _. part_name) gap))
+    (λ gap. part_means together (λ _ _ _ _. tt)
+    (part_items _ _ (λ _ _. Means Name extension_of_name) right_parenthesis refl refl (λ _ _. first_means name_solid) (λ _ _. part_name) gap))
     (omega arith))
 
 part_ignored : Part 0 0 true AnyValue ignored ignored Ignored (Before right_bracket) 0
 part_ignored =
     part_behind
-    (word_choose (stands (codes "type")) (record { holds = λ t next b z. rw z.same (stands-append (codes "type") next z.ends) }) (record { holds = λ t next b z. rw z.same refl })
+    (word_choose (stands (codes "type")) (record { holds = λ t next b z. rw z.same (stands-append (codes "type") next z.ends) })
+    (record { holds = λ t next b z. rw z.same refl })
     (word_fixed (codes "type") done) (word_fixed (codes "schema") done))
     (first_or (record { holds = λ t next u z. rw z.same refl }) (record { holds = λ t next u z. rw z.same refl }))
     (passes_or (passes_fixed (codes "type") done plain_words.5) (passes_fixed (codes "schema") done plain_words.6))
-    (λ _. part_behind (word_mark equals_sign done) (first_mark _ equals_sign done (λ s. refl)) (passes_equals_sign done) (λ _. part_means (λ _. Some no_extensions) (λ _ _ _ _. tt) (part_word word_string (first_solid string_solid) passes_string)))
+    (λ _. part_behind (word_mark equals_sign done) (first_mark _ equals_sign done (λ s. refl)) (passes_equals_sign done)
+    (λ _. part_means (λ _. Some no_extensions) (λ _ _ _ _. tt) (part_word word_string (first_solid string_solid) passes_string)))
 
 enable_first : First (λ s. stands (codes "enable") s ≡ true) Enable
 enable_first = first_then (record { holds = λ t next u z. rw z.same (stands-append (codes "enable") next z.ends) })
@@ -56,7 +60,8 @@ unfolding attribute
 part_attribute =
     part_behind (word_mark hash done) (first_mark _ hash done (λ s. refl)) (passes_hash done)
     (λ _. part_behind (word_mark exclamation_mark done) (first_mark _ exclamation_mark done (λ s. refl)) (passes_exclamation_mark done)
-    (λ _. part_group left_bracket right_bracket 0 refl refl (λ _. part_choose (stands (codes "enable")) enable_first ignored_first (part_any _ part_enable) part_ignored) (omega arith)))
+    (λ _. part_group left_bracket right_bracket 0 refl refl
+    (λ _. part_choose (stands (codes "enable")) enable_first ignored_first (part_any _ part_enable) part_ignored) (omega arith)))
 
 attribute_first : First (λ s. is_at hash s ≡ true) Attribute
 attribute_first = first_then (first_mark _ hash done (λ s. refl))
@@ -96,19 +101,29 @@ sound_in : (fuel : ℕ) (x : Extensions) (s : Text) (y : Extensions) (body : Tex
 sound_in zero x s y body h = absurd (cc)
 sound_in (suc fuel) x s y body h = go (is_at hash (skip s)) refl h (λ e r. sound_in fuel (union x e) r y body)
   where
-    at_attribute : (o : Got Extensions) → attribute (skip s) ≡ o → and_directly o (λ e. head_in fuel (union x e)) ≡ got y body → Further fuel x y body → EndsHead x s y body
+    at_attribute : (o : Got Extensions) → attribute (skip s) ≡ o → and_directly o (λ e. head_in fuel (union x e)) ≡ got y body → Further fuel x y body
+        → EndsHead x s y body
     at_attribute (got e r) a k further = one_more x e y s r body (part_attribute.exact.sound (skip s) e r a) (further e r k)
     at_attribute (failed f) a k further = absurd (cc)
 
-    go : (b : Bool) → is_at hash (skip s) ≡ b → cond b (and_directly (attribute (skip s)) (λ e. head_in fuel (union x e))) (got x s) ≡ got y body → Further fuel x y body → EndsHead x s y body
+    go : (b : Bool) → is_at hash (skip s) ≡ b → cond b (and_directly (attribute (skip s)) (λ e. head_in fuel (union x e))) (got x s) ≡ got y body
+        → Further fuel x y body → EndsHead x s y body
     go true a k further = at_attribute (attribute (skip s)) refl k further
-    go false a k further = record { announced = []; stretch = []; split = cc; is_head = refl; is_in_force = cc; ends = let same : s ≡ body = cc in ap (λ u. is_at hash (skip u)) (sym same) ∙ a }
+    go false a k further = record {
+      announced = [];
+      stretch = [];
+      split = cc;
+      is_head = refl;
+      is_in_force = cc;
+      ends = let same : s ≡ body = cc in ap (λ u. is_at hash (skip u)) (sym same) ∙ a;
+    }
 
 pub head_sound : (x : Extensions) (s : Text) (y : Extensions) (body : Text) → head x s ≡ got y body → EndsHead x s y body
 unfolding head
 head_sound x s y body h = sound_in (suc (length s)) x s y body h
 
-complete_in : (es : List Extensions) (x : Extensions) (t body : Text) (fuel : ℕ) → Head es t body → is_at hash (skip body) ≡ false → length (t ++ body) < fuel → head_in fuel x (t ++ body) ≡ got (in_force x es) body
+complete_in : (es : List Extensions) (x : Extensions) (t body : Text) (fuel : ℕ) → Head es t body → is_at hash (skip body) ≡ false → length (t ++ body) < fuel
+    → head_in fuel x (t ++ body) ≡ got (in_force x es) body
 complete_in es x t body zero h n lt = absurd (omega (arith, lt))
 complete_in [] x t body (suc fuel) h n lt = rw h (rw n refl)
 complete_in (e ∷ es) x t body (suc fuel) h n lt =
@@ -116,17 +131,20 @@ complete_in (e ∷ es) x t body (suc fuel) h n lt =
     let all : t ++ body ≡ h.gap ++ s = ap (λ u. u ++ body) h.split ∙ three h.gap h.attribute h.rest body in
     let at : skip (t ++ body) ≡ s = ap skip all ∙ skip-append h.gap s h.is_gap in
     let first : is_at hash (skip (t ++ body)) ≡ true = ap (is_at hash) at ∙ attribute_first.holds h.attribute (h.rest ++ body) e h.spelled in
-    let read : attribute (skip (t ++ body)) ≡ got e (h.rest ++ body) = ap attribute at ∙ (part_attribute.exact.complete h.attribute (h.rest ++ body) e h.spelled tt h.is_gap.longest).answer in
+    let read : attribute (skip (t ++ body)) ≡ got e (h.rest ++ body) =
+    ap attribute at ∙ (part_attribute.exact.complete h.attribute (h.rest ++ body) e h.spelled tt h.is_gap.longest).answer in
     let long = attribute_long h.attribute (h.rest ++ body) e h.spelled in
     let shorter : length (h.rest ++ body) < fuel = omega (arith, lt, long, ap length all, length-append h.gap s, length-append h.attribute (h.rest ++ body)) in
     rw (first, read) (complete_in es (union x e) h.rest body fuel h.more n shorter)
 
-pub head_complete : (es : List Extensions) (x : Extensions) (t body : Text) → Head es t body → is_at hash (skip body) ≡ false → head x (t ++ body) ≡ got (in_force x es) body
+pub head_complete : (es : List Extensions) (x : Extensions) (t body : Text) → Head es t body → is_at hash (skip body) ≡ false
+    → head x (t ++ body) ≡ got (in_force x es) body
 unfolding head
 head_complete es x t body h n = complete_in es x t body (suc (length (t ++ body))) h n (omega arith)
 
 pub head_exact : (x : Extensions) (text : Text) (y : Extensions) (body : Text) → EndsHead x text y body → head x text ≡ got y body
-head_exact x text y body h = ap (head x) h.split ∙ head_complete h.announced x h.stretch body h.is_head h.ends ∙ ap (λ (z : Extensions). got z body) (sym h.is_in_force)
+head_exact x text y body h =
+    ap (head x) h.split ∙ head_complete h.announced x h.stretch body h.is_head h.ends ∙ ap (λ (z : Extensions). got z body) (sym h.is_in_force)
 
 -- a head is never too deep
 attribute_calm : (s : Text) → attribute s ≡ failed deep → ⊥
@@ -136,7 +154,8 @@ calm_in : (fuel : ℕ) (x : Extensions) (s : Text) → head_in fuel x s ≡ fail
 calm_in zero x s e = cc
 calm_in (suc fuel) x s e = go (is_at hash (skip s)) (attribute (skip s)) refl e (calm_in fuel)
   where
-    go : (b : Bool) (o : Got Extensions) → attribute (skip s) ≡ o → cond b (and_directly o (λ e. head_in fuel (union x e))) (got x s) ≡ failed deep → ((x : Extensions) (s : Text) → head_in fuel x s ≡ failed deep → ⊥) → ⊥
+    go : (b : Bool) (o : Got Extensions) → attribute (skip s) ≡ o → cond b (and_directly o (λ e. head_in fuel (union x e))) (got x s) ≡ failed deep
+        → ((x : Extensions) (s : Text) → head_in fuel x s ≡ failed deep → ⊥) → ⊥
     go true (got y r) a k calm = calm (union x y) r k
     go true (failed f) a k calm = attribute_calm (skip s) (a ∙ k)
     go false o a k calm = cc

@@ -1,6 +1,7 @@
 -- The reader functions of attributes a step at a time: one equation for each case, for code that reads in the same order.
 use Rattle.ron_spec_grammar.specs.Data.{Data}
-use Rattle.std.proofs.Common.{◌≡◌, ℕ, zero, suc, ◌<◌, ◌≤◌, Bool, true, false, cond, List, [], ◌∷◌, length, ◌++◌, refl, sym, ap, ap₂, subst, ◌∙◌, arith, length-append, ◌+◌, ◌==◌, if◌then◌else◌}
+use Rattle.std.proofs.Common.{◌≡◌, ℕ, zero, suc, ◌<◌, ◌≤◌, Bool, true, false, cond, List, [], ◌∷◌, length, ◌++◌, refl, sym, ap, ap₂, subst, ◌∙◌, arith}
+use Rattle.std.proofs.Common.{length-append, ◌+◌, ◌==◌, if◌then◌else◌}
 use Rattle.ron_spec_words.specs.Characters.{Text, hash, right_parenthesis}
 use Rattle.ron_spec_words.specs.Runs.{is_at}
 use Rattle.ron_spec_words.specs.Gap.{LongGap, skip, gap_of}
@@ -65,9 +66,11 @@ Agree m n bound = (x : Extensions) (r : Text) → length r < bound → head_in m
 same_fuel : (m n : ℕ) (x : Extensions) (s : Text) → length s < m → length s < n → head_in m x s ≡ head_in n x s
 same_fuel zero n x s l k = absurd (omega (arith, l))
 same_fuel (suc m) zero x s l k = absurd (omega (arith, k))
-same_fuel (suc m) (suc n) x s l k = go (is_at hash (skip s)) (attribute (skip s)) refl (λ y r lt. same_fuel m n y r (omega (arith, l, lt)) (omega (arith, k, lt)))
+same_fuel (suc m) (suc n) x s l k =
+    go (is_at hash (skip s)) (attribute (skip s)) refl (λ y r lt. same_fuel m n y r (omega (arith, l, lt)) (omega (arith, k, lt)))
   where
-    go : (b : Bool) (o : Got Extensions) → attribute (skip s) ≡ o → Agree m n (length s) → cond b (and_directly o (λ e. head_in m (union x e))) (got x s) ≡ cond b (and_directly o (λ e. head_in n (union x e))) (got x s)
+    go : (b : Bool) (o : Got Extensions) → attribute (skip s) ≡ o → Agree m n (length s)
+        → cond b (and_directly o (λ e. head_in m (union x e))) (got x s) ≡ cond b (and_directly o (λ e. head_in n (union x e))) (got x s)
     go true (got e r) a agree = agree (union x e) r (shorter_behind s e r a)
     go true (failed f) a agree = refl
     go false o a agree = refl
@@ -76,7 +79,8 @@ head_step : (x : Extensions) (s : Text) → head x s ≡ cond (is_at hash (skip 
 unfolding head
 head_step x s = go (is_at hash (skip s)) (attribute (skip s)) refl
   where
-    go : (b : Bool) (o : Got Extensions) → attribute (skip s) ≡ o → cond b (and_directly o (λ e. head_in (length s) (union x e))) (got x s) ≡ cond b (and_directly o (λ e r. head_in (suc (length r)) (union x e) r)) (got x s)
+    go : (b : Bool) (o : Got Extensions) → attribute (skip s) ≡ o → cond b (and_directly o (λ e. head_in (length s) (union x e))) (got x s)
+        ≡ cond b (and_directly o (λ e r. head_in (suc (length r)) (union x e) r)) (got x s)
     go true (got e r) a = same_fuel (length s) (suc (length r)) (union x e) r (shorter_behind s e r a) (omega arith)
     go true (failed f) a = refl
     go false o a = refl
@@ -100,25 +104,33 @@ start_is x s = ap (λ o. and_directly o (λ y. after_gap (λ gap. give (y, gap))
     at_attribute (failed f) = refl
 
     go : (a : Bool) → is_at 47 (skip s) ≡ a → (b : Bool) → is_at hash (skip s) ≡ b
-        → and_directly (cond b (and_directly (attribute (skip s)) (λ e. head (union x e))) (got x s)) behind ≡ cond a (failed bad) (cond b (and_directly (attribute (skip s)) (λ e. value_start (union x e))) (got (x, gap_of s) (skip s)))
+        → and_directly (cond b (and_directly (attribute (skip s)) (λ e. head (union x e))) (got x s)) behind
+        ≡ cond a (failed bad) (cond b (and_directly (attribute (skip s)) (λ e. value_start (union x e))) (got (x, gap_of s) (skip s)))
     go true h true k = absurd (let n : is_at hash (skip s) ≡ false = is_at_other 47 hash (skip s) h refl in cc)
     go true h false k = after_slash (λ gap. give (x, gap)) s h
     go false h true k = at_attribute (attribute (skip s))
     go false h false k = after_other (λ gap. give (x, gap)) s h
 
 -- a document is read from there on: at the start of the text where the gap and what is left are all of it
-pub document_from : (x : Extensions) (schema : List Shape) (root limit : ℕ) (text : Text) → answer_document x schema root limit text ≡ whole (and_directly (value_start x text) (λ (p : Extensions × Text) rest. read_at (length p.1 + length rest == length text) p.0 schema limit false root p.1 rest))
+pub document_from : (x : Extensions) (schema : List Shape) (root limit : ℕ) (text : Text) → answer_document x schema root limit text ≡ whole
+    (and_directly (value_start x text) (λ (p : Extensions × Text) rest. read_at (length p.1 + length rest == length text) p.0 schema limit false root p.1 rest))
 unfolding value_start answer_at answer_document
 document_from x schema root limit text = go (head x text)
   where
     q : Extensions → Text → Text → Got Data
     q y gap rest = read_at (length gap + length rest == length text) y schema limit false root gap rest
 
-    same : (y : Extensions) (body : Text) → read_at (length body == length text) y schema limit false root (gap_of body) (skip body) ≡ q y (gap_of body) (skip body)
-    same y body = let e : length body ≡ length (gap_of body) + length (skip body) = ap length (cut body).split ∙ length-append (gap_of body) (skip body) in ap (λ n. read_at (n == length text) y schema limit false root (gap_of body) (skip body)) e
+    same : (y : Extensions) (body : Text)
+        → read_at (length body == length text) y schema limit false root (gap_of body) (skip body) ≡ q y (gap_of body) (skip body)
+    same y body = let e : length body ≡ length (gap_of body) + length (skip body) = ap length (cut body).split ∙ length-append (gap_of body) (skip body) in
+        ap (λ n. read_at (n == length text) y schema limit false root (gap_of body) (skip body)) e
 
-    go : (o : Got Extensions) → behind_head o (λ y body. whole (after_gap (read_at (length body == length text) y schema limit false root) body)) ≡ whole (and_directly (and_directly o (λ y. after_gap (λ gap. give (y, gap)))) (λ (p : Extensions × Text) rest. q p.0 p.1 rest))
-    go (got y body) = elim (is_at 47 (skip body)) as (λ b. whole (cond b (failed bad) (read_at (length body == length text) y schema limit false root (gap_of body) (skip body))) ≡ whole (and_directly {A = Extensions × Text} (cond b (failed bad) (got (y, gap_of body) (skip body))) (λ (p : Extensions × Text) rest. q p.0 p.1 rest))) [ true ↦ refl | false ↦ ap whole (same y body) ]
+    go : (o : Got Extensions) → behind_head o (λ y body. whole (after_gap (read_at (length body == length text) y schema limit false root) body))
+        ≡ whole (and_directly (and_directly o (λ y. after_gap (λ gap. give (y, gap)))) (λ (p : Extensions × Text) rest. q p.0 p.1 rest))
+    go (got y body) = elim (is_at 47 (skip body))
+        as (λ b. whole (cond b (failed bad) (read_at (length body == length text) y schema limit false root (gap_of body) (skip body)))
+        ≡ whole (and_directly {A = Extensions × Text} (cond b (failed bad) (got (y, gap_of body) (skip body)))
+        (λ (p : Extensions × Text) rest. q p.0 p.1 rest))) [ true ↦ refl | false ↦ ap whole (same y body) ]
     go (failed f) = refl
 
 -- ---- what a start leaves
@@ -129,16 +141,19 @@ unfolding value_start
 start_no_longer x s p rest e = go (head x s) refl e
   where
     behind : (y : Extensions) (body : Text) → after_gap {A = Extensions × Text} (λ gap. give (y, gap)) body ≡ got p rest → length rest ≤ length body
-    behind y body = elim (is_at 47 (skip body)) as (λ b. cond {A = Got (Extensions × Text)} b (failed bad) (got (y, gap_of body) (skip body)) ≡ got p rest → length rest ≤ length body)
+    behind y body = elim (is_at 47 (skip body))
+        as (λ b. cond {A = Got (Extensions × Text)} b (failed bad) (got (y, gap_of body) (skip body)) ≡ got p rest → length rest ≤ length body)
         [ true ↦ λ k. absurd (cc) | false ↦ λ k. (let same : skip body ≡ rest = cc in omega (arith, ap length same, length-skip body)) ]
 
-    go : (o : Got Extensions) → head x s ≡ o → and_directly {B = Extensions × Text} o (λ y. after_gap (λ gap. give (y, gap))) ≡ got p rest → length rest ≤ length s
+    go : (o : Got Extensions) → head x s ≡ o → and_directly {B = Extensions × Text} o (λ y. after_gap (λ gap. give (y, gap))) ≡ got p rest
+        → length rest ≤ length s
     go (got y body) h k = let z = head_sound x s y body h in omega (arith, behind y body k, ap length z.split, length-append z.stretch body)
     go (failed f) h k = absurd (cc)
 
 -- where no attribute stands it is the gap alone
 pub start_plain : (x : Extensions) (s : Text) (p : Extensions × Text) (rest : Text) → is_at hash (skip s) ≡ false → value_start x s ≡ got p rest → rest ≡ skip s
-start_plain x s p rest n e = go (is_at 47 (skip s)) (ap (λ (b : Bool). cond (is_at 47 (skip s)) (failed bad) (cond b (and_directly (attribute (skip s)) (λ e. value_start (union x e))) (got (x, gap_of s) (skip s)))) (sym n) ∙ sym (start_is x s) ∙ e)
+start_plain x s p rest n e = go (is_at 47 (skip s)) (ap (λ (b : Bool). cond (is_at 47 (skip s)) (failed bad)
+    (cond b (and_directly (attribute (skip s)) (λ e. value_start (union x e))) (got (x, gap_of s) (skip s)))) (sym n) ∙ sym (start_is x s) ∙ e)
   where
     go : (b : Bool) → cond b (failed bad) (got (x, gap_of s) (skip s)) ≡ got p rest → rest ≡ skip s
     go true k = absurd (cc)
@@ -150,7 +165,8 @@ pub start_sound : (x : Extensions) (s : Text) (y : Extensions) (gap rest : Text)
 unfolding value_start
 start_sound x s y gap rest e = go (head x s) refl e
   where
-    behind : (z : Extensions) (body : Text) → head x s ≡ got z body → (b : Bool) → is_at 47 (skip body) ≡ b → cond {A = Got (Extensions × Text)} b (failed bad) (got (z, gap_of body) (skip body)) ≡ got (y, gap) rest → StartsValue x s y gap rest
+    behind : (z : Extensions) (body : Text) → head x s ≡ got z body → (b : Bool) → is_at 47 (skip body) ≡ b
+        → cond {A = Got (Extensions × Text)} b (failed bad) (got (z, gap_of body) (skip body)) ≡ got (y, gap) rest → StartsValue x s y gap rest
     behind z body h true n k = absurd (cc)
     behind z body h false n k =
         let g = cut body in
@@ -164,11 +180,13 @@ start_sound x s y gap rest e = go (head x s) refl e
           no_slash = ap (is_at 47) (sym rest_is) ∙ n;
         }
 
-    go : (o : Got Extensions) → head x s ≡ o → and_directly {B = Extensions × Text} o (λ z. after_gap (λ gap. give (z, gap))) ≡ got (y, gap) rest → StartsValue x s y gap rest
+    go : (o : Got Extensions) → head x s ≡ o → and_directly {B = Extensions × Text} o (λ z. after_gap (λ gap. give (z, gap))) ≡ got (y, gap) rest
+        → StartsValue x s y gap rest
     go (got z body) h k = behind z body h (is_at 47 (skip body)) refl k
     go (failed f) h k = absurd (cc)
 
 pub start_exact : (x : Extensions) (s : Text) (y : Extensions) (gap rest : Text) → StartsValue x s y gap rest → value_start x s ≡ got (y, gap) rest
 unfolding value_start
 start_exact x s y gap rest h =
-    ap (λ o. and_directly o (λ z. after_gap (λ gap. give (z, gap)))) (head_exact x s y (gap ++ rest) h.head_ends) ∙ after_gap_at (λ g. give (y, g)) gap rest h.is_gap h.no_slash
+    ap (λ o. and_directly o (λ z. after_gap (λ gap. give (z, gap)))) (head_exact x s y (gap ++ rest) h.head_ends)
+    ∙ after_gap_at (λ g. give (y, g)) gap rest h.is_gap h.no_slash

@@ -1,5 +1,6 @@
 -- The reader function of options and of bare content a step at a time: one equation for each case, for code that reads in the same order.
-use Rattle.std.proofs.Common.{cond, ◌≡◌, ℕ, suc, ◌==◌, ◌∷◌, Bool, true, false, not, ◌&&◌, ◌||◌, [], List, codes, drop, Option, Some, slice_get, refl, sym, ap, ap₂, ◌∙◌, eqb-true, nat_le, if◌then◌else◌, arith}
+use Rattle.std.proofs.Common.{cond, ◌≡◌, ℕ, suc, ◌==◌, ◌∷◌, Bool, true, false, not, ◌&&◌, ◌||◌, [], List, codes, drop, Option, Some, slice_get, refl, sym, ap}
+use Rattle.std.proofs.Common.{ap₂, ◌∙◌, eqb-true, nat_le, if◌then◌else◌, arith}
 use Rattle.std.proofs.Math.Bool.{and-true}
 use Rattle.std.proofs.lemmas.Bool.{le-leb}
 use Rattle.ron_spec_words.specs.Characters.{Text, left_parenthesis, right_parenthesis, slash}
@@ -13,7 +14,8 @@ use Rattle.ron_spec_grammar.specs.Shapes.Range.{full_data, range_data, read_rang
 use Rattle.ron_spec_words.specs.Turns.{rest_of_group}
 use Rattle.ron_spec_words.proofs.Turns.{after_slash, after_other}
 use Rattle.ron_spec_grammar.specs.Data.{Data, Datas, no_datas, some_of, struct_of, the_unit, unit_struct_of, tuple_of, tuple_struct_of}
-use Rattle.ron_spec_grammar.specs.Schema.{Shape, FieldList, bool, int, char, str, bytes, unit, optional, unit_struct, seq, tuple, tuple_struct, map, newtype, struct, enum, any_value, any_raw}
+use Rattle.ron_spec_grammar.specs.Schema.{Shape, FieldList, bool, int, char, str, bytes, unit, optional, unit_struct, seq, tuple, tuple_struct, map, newtype}
+use Rattle.ron_spec_grammar.specs.Schema.{struct, enum, any_value, any_raw}
 use Rattle.ron_spec_grammar.specs.Rule.{Extensions, below, allowed}
 use Rattle.ron_spec_grammar.specs.Reading.{rule, too_deep, read, read_at}
 use Rattle.ron_spec_grammar.specs.Shapes.Newtype.{newtype_data}
@@ -23,7 +25,8 @@ use Rattle.ron_spec_grammar.specs.Shapes.Tuple.{tuple_items}
 use Rattle.ron_spec_grammar.specs.Shapes.Unit.{unit_data}
 use Rattle.ron_spec_grammar.specs.Shapes.UnitStruct.{unit_struct_data}
 use Rattle.ron_spec_grammar.specs.Values.Grammar.{read_any_below}
-use Rattle.ron_spec_grammar.specs.Turns.{read_below, read_content, read_closed, read_bare, read_bare_below, read_elements, read_bare_items, read_tuple_inside, read_fields, read_fields_inside}
+use Rattle.ron_spec_grammar.specs.Turns.{read_below, read_content, read_closed, read_bare, read_bare_below, read_elements, read_bare_items, read_tuple_inside}
+use Rattle.ron_spec_grammar.specs.Turns.{read_fields, read_fields_inside}
 use Rattle.ron_spec_grammar.proofs.ContentTurns.{closed}
 
 -- the closing bracket behind an answer
@@ -57,8 +60,10 @@ bracket_meant f (got d rest) = behind (is_at slash (skip rest)) refl
         go false e = rw e refl
 
     behind : (b : Bool) → is_at slash (skip rest) ≡ b → bracketed (got (f d) rest) ≡ meant (bracketed (got d rest)) (λ d. Some (f d))
-    behind true e = after_slash (λ _. mark right_parenthesis (f d)) rest e ∙ sym (ap (λ o. meant o (λ d. Some (f d))) (after_slash (λ _. mark right_parenthesis d) rest e))
-    behind false e = after_other (λ _. mark right_parenthesis (f d)) rest e ∙ marked (skip rest) ∙ sym (ap (λ o. meant o (λ d. Some (f d))) (after_other (λ _. mark right_parenthesis d) rest e))
+    behind true e =
+        after_slash (λ _. mark right_parenthesis (f d)) rest e ∙ sym (ap (λ o. meant o (λ d. Some (f d))) (after_slash (λ _. mark right_parenthesis d) rest e))
+    behind false e = after_other (λ _. mark right_parenthesis (f d)) rest e ∙ marked (skip rest)
+        ∙ sym (ap (λ o. meant o (λ d. Some (f d))) (after_other (λ _. mark right_parenthesis d) rest e))
 
 bracket_needs : (room : ℕ) (r : Reader Data) (s : Text) → bracketed (needs 1 room r s) ≡ needs 1 room (λ t. bracketed (r t)) s
 bracket_needs room r s = go (nat_le 1 room)
@@ -91,8 +96,10 @@ pub no_slash : (s : Text) → is_at left_parenthesis s ≡ true → is_at slash 
 no_slash [] e = refl
 no_slash (c ∷ s) e = rw (eqb-true c 40 e) refl
 
-behind_some : {A : Type 0} (q : Text → Text → Got A) (s : Text) → opens_some s ≡ true → and_then (fixed_word (codes "Some") done s) (λ _ gap. q gap) ≡ q (gap_of (drop 4 s)) (skip (drop 4 s))
-behind_some q s e = let h = each_true (stands (codes "Some") s) (is_at left_parenthesis (skip (drop 4 s))) e in rw h.0 (after_other q (drop 4 s) (no_slash (skip (drop 4 s)) h.1))
+behind_some : {A : Type 0} (q : Text → Text → Got A) (s : Text) → opens_some s ≡ true
+    → and_then (fixed_word (codes "Some") done s) (λ _ gap. q gap) ≡ q (gap_of (drop 4 s)) (skip (drop 4 s))
+behind_some q s e = let h = each_true (stands (codes "Some") s) (is_at left_parenthesis (skip (drop 4 s))) e in
+    rw h.0 (after_other q (drop 4 s) (no_slash (skip (drop 4 s)) h.1))
 
 module _ (x : Extensions) (schema : List Shape) where
   -- ---- one level deeper
@@ -105,7 +112,8 @@ module _ (x : Extensions) (schema : List Shape) where
   unfolding read_bare_below
   bare_below_deep i before s = refl
 
-  pub bare_items_none : (room : ℕ) (make : Datas → Data) (before s : Text) → read_bare_items x schema (suc room) make [] before s ≡ bracketed (opt_comma (make no_datas) s)
+  pub bare_items_none : (room : ℕ) (make : Datas → Data) (before s : Text)
+      → read_bare_items x schema (suc room) make [] before s ≡ bracketed (opt_comma (make no_datas) s)
   unfolding read_bare_items
   bare_items_none room make before s = rw (le-leb 1 (suc room) (omega arith)) refl
 
@@ -122,11 +130,14 @@ module _ (x : Extensions) (schema : List Shape) where
       option_none e = rw (is, e) refl
 
       module _ (not_none : stands (codes "None") s ≡ false) where
-        pub option_some : opens_some s ≡ true → read x schema room false i before s ≡ meant (read_content x schema room x.unwrap_variant_newtypes j (skip (drop 4 s))) some_data
+        pub option_some : opens_some s ≡ true
+            → read x schema room false i before s ≡ meant (read_content x schema room x.unwrap_variant_newtypes j (skip (drop 4 s))) some_data
         unfolding read_at read_content
-        option_some e = rw (is, not_none, e) (behind_some (λ _. means (group left_parenthesis right_parenthesis (content x.unwrap_variant_newtypes (below (rule x schema) too_deep room 0 false) j)) some_data) s e)
+        option_some e = rw (is, not_none, e) (behind_some (λ _.
+            means (group left_parenthesis right_parenthesis (content x.unwrap_variant_newtypes (below (rule x schema) too_deep room 0 false) j)) some_data) s e)
 
-        pub option_implied : opens_some s ≡ false → x.implicit_some ≡ true → read x schema room false i before s ≡ meant (read_below x schema room j before s) some_data
+        pub option_implied : opens_some s ≡ false → x.implicit_some ≡ true
+            → read x schema room false i before s ≡ meant (read_below x schema room j before s) some_data
         unfolding read_at read_below
         option_implied e k = rw (is, not_none, e, k) refl
 
@@ -136,7 +147,8 @@ module _ (x : Extensions) (schema : List Shape) where
 
     -- ---- bare content
 
-    pub bare_plain : (shape : Shape) → slice_get schema i ≡ Some shape → is_plain shape ≡ true → read_bare x schema room i before s ≡ read_closed x schema room i before s
+    pub bare_plain : (shape : Shape) → slice_get schema i ≡ Some shape → is_plain shape ≡ true
+        → read_bare x schema room i before s ≡ read_closed x schema room i before s
     unfolding read_bare read_closed read_at
     bare_plain bool e p = rw e refl
     bare_plain (int w) e p = rw e refl
@@ -164,23 +176,29 @@ module _ (x : Extensions) (schema : List Shape) where
     unfolding read_bare read_at
     bare_unit e = rw e (ap bracketed (comma_meant done the_unit unit_data s refl))
 
-    pub bare_unit_struct : (name : Text) → slice_get schema i ≡ Some (unit_struct name) → opens_interval s ≡ false → read_bare x schema room i before s ≡ bracketed (opt_comma (unit_struct_of name) s)
+    pub bare_unit_struct : (name : Text) → slice_get schema i ≡ Some (unit_struct name) → opens_interval s ≡ false
+        → read_bare x schema room i before s ≡ bracketed (opt_comma (unit_struct_of name) s)
     unfolding read_bare read_at
-    bare_unit_struct name e f = rw e (ap (λ b. bracketed (cond b (read_range true (full_data name) s) (means (opt_comma done) (unit_struct_data name) s))) f ∙ ap bracketed (comma_meant done (unit_struct_of name) (unit_struct_data name) s refl))
+    bare_unit_struct name e f = rw e (ap (λ b. bracketed (cond b (read_range true (full_data name) s) (means (opt_comma done) (unit_struct_data name) s))) f
+        ∙ ap bracketed (comma_meant done (unit_struct_of name) (unit_struct_data name) s refl))
 
-    pub bare_full_range : (name : Text) → slice_get schema i ≡ Some (unit_struct name) → opens_interval s ≡ true → read_bare x schema room i before s ≡ closed (meant (number_or_range s) (full_data name))
+    pub bare_full_range : (name : Text) → slice_get schema i ≡ Some (unit_struct name) → opens_interval s ≡ true
+        → read_bare x schema room i before s ≡ closed (meant (number_or_range s) (full_data name))
     unfolding read_bare read_at
     bare_full_range name e f = rw e (ap (λ b. bracketed (cond b (read_range true (full_data name) s) (means (opt_comma done) (unit_struct_data name) s))) f)
 
-    pub bare_newtype : (name : Text) (j : ℕ) → slice_get schema i ≡ Some (newtype name j) → read_bare x schema room i before s ≡ closed (meant (read_below x schema room j before s) (newtype_data name))
+    pub bare_newtype : (name : Text) (j : ℕ) → slice_get schema i ≡ Some (newtype name j)
+        → read_bare x schema room i before s ≡ closed (meant (read_below x schema room j before s) (newtype_data name))
     unfolding read_bare read_below read_at
     bare_newtype name j e = rw e refl
 
-    pub bare_tuple : (js : List ℕ) → slice_get schema i ≡ Some (tuple js) → read_bare x schema room i before s ≡ read_bare_items x schema room tuple_of js before s
+    pub bare_tuple : (js : List ℕ) → slice_get schema i ≡ Some (tuple js)
+        → read_bare x schema room i before s ≡ read_bare_items x schema room tuple_of js before s
     unfolding read_bare read_bare_items read_at
     bare_tuple js e = rw e refl
 
-    pub bare_tuple_struct : (name : Text) (js : List ℕ) → slice_get schema i ≡ Some (tuple_struct name js) → read_bare x schema room i before s ≡ read_bare_items x schema room (tuple_struct_of name) js before s
+    pub bare_tuple_struct : (name : Text) (js : List ℕ) → slice_get schema i ≡ Some (tuple_struct name js)
+        → read_bare x schema room i before s ≡ read_bare_items x schema room (tuple_struct_of name) js before s
     unfolding read_bare read_bare_items read_at
     bare_tuple_struct name js e = rw e refl
 
@@ -192,15 +210,19 @@ module _ (x : Extensions) (schema : List Shape) where
 
     -- what is read of bare fields
     abbrev bare_fields : Text → FieldList → Got Data
-    bare_fields name list = needs 1 room (field_items name list (below (rule x schema) too_deep room 1 false) (read_any_below x.unwrap_variant_newtypes room 1) before) s
+    bare_fields name list =
+        needs 1 room (field_items name list (below (rule x schema) too_deep room 1 false) (read_any_below x.unwrap_variant_newtypes room 1) before) s
 
-    pub bare_range : (name : Text) (list : FieldList) → slice_get schema i ≡ Some (struct name list) → opens_interval s ≡ true → read_bare x schema room i before s ≡ closed (meant (number_or_range s) (range_data schema name list.fields))
+    pub bare_range : (name : Text) (list : FieldList) → slice_get schema i ≡ Some (struct name list) → opens_interval s ≡ true
+        → read_bare x schema room i before s ≡ closed (meant (number_or_range s) (range_data schema name list.fields))
     unfolding read_bare read_at
     bare_range name list e f = rw e (ap (λ b. bracketed (cond b (read_range true (range_data schema name list.fields) s) (bare_fields name list))) f)
 
-    pub bare_struct : (name : Text) (list : FieldList) → slice_get schema i ≡ Some (struct name list) → opens_interval s ≡ false → read_bare x schema room i before s ≡ read_fields_inside x schema room (struct_of name) list before s
+    pub bare_struct : (name : Text) (list : FieldList) → slice_get schema i ≡ Some (struct name list) → opens_interval s ≡ false
+        → read_bare x schema room i before s ≡ read_fields_inside x schema room (struct_of name) list before s
     unfolding read_bare read_fields_inside read_fields rest_of_group read_at
-    bare_struct name list e f = rw e (ap (λ b. bracketed (cond b (read_range true (range_data schema name list.fields) s) (bare_fields name list))) f ∙ bracket_needs room (field_items name list (below (rule x schema) too_deep room 1 false) (read_any_below x.unwrap_variant_newtypes room 1) before) s)
+    bare_struct name list e f = rw e (ap (λ b. bracketed (cond b (read_range true (range_data schema name list.fields) s) (bare_fields name list))) f
+        ∙ bracket_needs room (field_items name list (below (rule x schema) too_deep room 1 false) (read_any_below x.unwrap_variant_newtypes room 1) before) s)
 
     module _ (j : ℕ) (is : slice_get schema i ≡ Some (optional j)) where
       pub bare_option_none : stands (codes "None") s ≡ true → read_bare x schema room i before s ≡ read_closed x schema room i before s
@@ -212,9 +234,12 @@ module _ (x : Extensions) (schema : List Shape) where
         unfolding read_bare read_closed read_at
         bare_option_some e = rw (is, not_none, e) refl
 
-        pub bare_option_implied : opens_some s ≡ false → x.implicit_some ≡ true → read_bare x schema room i before s ≡ meant (read_bare_below x schema room j before s) some_data
+        pub bare_option_implied : opens_some s ≡ false → x.implicit_some ≡ true
+            → read_bare x schema room i before s ≡ meant (read_bare_below x schema room j before s) some_data
         unfolding read_bare read_bare_below read_at
-        bare_option_implied e k = rw (is, not_none, e) (ap (λ b. bracketed (allowed b (means (below (rule x schema) too_deep room 0 false true j before) some_data) s)) k ∙ bracket_meant some_of (below (rule x schema) too_deep room 0 false true j before s))
+        bare_option_implied e k =
+            rw (is, not_none, e) (ap (λ b. bracketed (allowed b (means (below (rule x schema) too_deep room 0 false true j before) some_data) s)) k
+            ∙ bracket_meant some_of (below (rule x schema) too_deep room 0 false true j before s))
 
         pub bare_option_refused : opens_some s ≡ false → x.implicit_some ≡ false → read_bare x schema room i before s ≡ read_closed x schema room i before s
         unfolding read_bare read_closed read_at
@@ -232,5 +257,8 @@ module _ (x : Extensions) (schema : List Shape) where
           by_none true h = bare_option_none h
           by_none false h = by_some h (opens_some s) refl
 
-      pub bare_option_alone : (x.implicit_some && not (opens_option s)) ≡ true → read_bare x schema room i before s ≡ meant (read_bare_below x schema room j before s) some_data
-      bare_option_alone e = let h = each_true x.implicit_some (not (opens_option s)) e in let o = neither (stands (codes "None") s) (opens_some s) h.1 in bare_option_implied o.0 o.1 h.0
+      pub bare_option_alone : (x.implicit_some && not (opens_option s)) ≡ true
+          → read_bare x schema room i before s ≡ meant (read_bare_below x schema room j before s) some_data
+      bare_option_alone e = let h = each_true x.implicit_some (not (opens_option s)) e in
+          let o = neither (stands (codes "None") s) (opens_some s) h.1 in
+          bare_option_implied o.0 o.1 h.0

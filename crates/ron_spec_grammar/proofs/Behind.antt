@@ -25,8 +25,16 @@ module _ {A : Type 0} (P : List A → A → Type 0) (L : List A → Text → Lan
 
 module _ {room step : ℕ} {A : Type 0} (P : List A → A → Type 0) (q r : List A → Text → Reader A) (L : List A → Text → Lang A) (close : ℕ) {e : ℕ} where
   -- the lemma on items, with such a fact
-  pub part_items_behind : is_delimiter close ≡ true → (close == comma) ≡ false → ((seen : List A) (before : Text) → Opens (L seen before)) → ((seen : List A) (before : Text) → Part room step false (P seen) (q seen before) (r seen before) (L seen before) FollowsValue e)
+  pub part_items_behind : is_delimiter close ≡ true → (close == comma) ≡ false → ((seen : List A) (before : Text) → Opens (L seen before))
+      → ((seen : List A) (before : Text) → Part room step false (P seen) (q seen before) (r seen before) (L seen before) FollowsValue e)
       → (before : Text) → Part room step true (EachBehind P []) (items q close before) (items r close before) (Items L before) (Before close) e
   part_items_behind s c o h before =
       let p = part_items {P = AnyValue} q r L close s c o (λ seen gap. part_weaker (λ _ _. tt) (h seen gap)) before in
-      record { exact = p.exact; begins = p.begins; agrees = p.agrees; shallow = p.shallow; values = record { are = items_values P L (λ seen gap. (h seen gap).values) before }; passes = p.passes }
+      record {
+        exact = p.exact;
+        begins = p.begins;
+        agrees = p.agrees;
+        shallow = p.shallow;
+        values = record { are = items_values P L (λ seen gap. (h seen gap).values) before };
+        passes = p.passes;
+      }

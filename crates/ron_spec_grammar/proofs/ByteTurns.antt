@@ -61,6 +61,7 @@ module _ (room : ℕ) where
   bytes_quoted s e = rw e refl
 
 -- bytes at an index of the table
-pub bytes_read : (x : Extensions) (schema : List Shape) (room i : ℕ) (before s : Text) → slice_get schema i ≡ Some bytes → read x schema room false i before s ≡ read_bytes room false s
+pub bytes_read : (x : Extensions) (schema : List Shape) (room i : ℕ) (before s : Text) → slice_get schema i ≡ Some bytes
+    → read x schema room false i before s ≡ read_bytes room false s
 unfolding read_at
 bytes_read x schema room i before s e = rw e refl

@@ -23,7 +23,9 @@ use Rattle.ron_spec_grammar.specs.Room.{step, rank, enough}
 
 -- words and gaps
 unfoldable pub words : Unit {0}
-unfolding unicode_ident skip skip_from after_comment gap_of tail name untyped_name opens_field opens_named_group holds_several seek token char string byte_string quoted_string quoted_bytes string_escape byte_string_escape raw hex_character hex_byte unicode_escape plain_escape continuation is_utf8 encode any_integer untyped_integer number_or_range number magnitude opt_suffix byte smallest_width
+unfolding unicode_ident skip skip_from after_comment gap_of tail name untyped_name opens_field opens_named_group holds_several seek token char string
+    byte_string quoted_string quoted_bytes string_escape byte_string_escape raw hex_character hex_byte unicode_escape plain_escape continuation is_utf8 encode
+    any_integer untyped_integer number_or_range number magnitude opt_suffix byte smallest_width
 words = tt
 
 -- values without a schema, and raw texts

@@ -59,31 +59,40 @@ module _ (x : Extensions) (schema : List Shape) where
       unfolding read_tuple_group
       tuple_group_not_opened e = no_group left_parenthesis s _ e
 
-      pub tuple_group_opened : (u : Text) → s ≡ left_parenthesis ∷ u → read_tuple_group x schema room make js s ≡ after_gap (λ gap. read_tuple_inside x schema room make js gap) u
+      pub tuple_group_opened : (u : Text) → s ≡ left_parenthesis ∷ u
+          → read_tuple_group x schema room make js s ≡ after_gap (λ gap. read_tuple_inside x schema room make js gap) u
       unfolding read_tuple_group read_tuple_inside read_elements
-      tuple_group_opened u o = rw o (group_opened (λ seen. at_shape (below (rule x schema) too_deep room 1 false) (slice_get js (length seen))) right_parenthesis (as_many make js) left_parenthesis 1 room u)
+      tuple_group_opened u o = rw o (group_opened (λ seen. at_shape (below (rule x schema) too_deep room 1 false) (slice_get js (length seen)))
+          right_parenthesis (as_many make js) left_parenthesis 1 room u)
 
     -- ---- at an index of the table
 
     module _ (i : ℕ) (before s : Text) where
-      pub read_unit_struct_of : (name : Text) → slice_get schema i ≡ Some (unit_struct name) → read x schema room false i before s ≡ read_unit_struct x.explicit_struct_names name false s
+      pub read_unit_struct_of : (name : Text) → slice_get schema i ≡ Some (unit_struct name)
+          → read x schema room false i before s ≡ read_unit_struct x.explicit_struct_names name false s
       unfolding read_at
       read_unit_struct_of name e = rw e refl
 
-      pub read_tuple_of : (js : List ℕ) → slice_get schema i ≡ Some (tuple js) → read x schema room false i before s ≡ read_tuple_group x schema room tuple_of js s
+      pub read_tuple_of : (js : List ℕ) → slice_get schema i ≡ Some (tuple js)
+          → read x schema room false i before s ≡ read_tuple_group x schema room tuple_of js s
       unfolding read_at read_tuple_group
       read_tuple_of js e = rw e refl
 
       pub read_tuple_struct_of : (name : Text) (js : List ℕ) → slice_get schema i ≡ Some (tuple_struct name js)
-          → read x schema room false i before s ≡ pick (is_at left_parenthesis) (without_name x.explicit_struct_names (read_tuple_group x schema room (tuple_struct_of name) js)) (in_sequence (named name) (λ _ gap. no_gap gap (read_tuple_group x schema room (tuple_struct_of name) js))) s
+          → read x schema room false i before s
+          ≡ pick (is_at left_parenthesis) (without_name x.explicit_struct_names (read_tuple_group x schema room (tuple_struct_of name) js))
+          (in_sequence (named name) (λ _ gap. no_gap gap (read_tuple_group x schema room (tuple_struct_of name) js))) s
       unfolding read_at read_tuple_group
       read_tuple_struct_of name js e = rw e refl
 
-      pub read_newtype_alone : (name : Text) (j : ℕ) → slice_get schema i ≡ Some (newtype name j) → x.unwrap_newtypes ≡ true → read x schema room false i before s ≡ meant (read_below x schema room j before s) (newtype_data name)
+      pub read_newtype_alone : (name : Text) (j : ℕ) → slice_get schema i ≡ Some (newtype name j) → x.unwrap_newtypes ≡ true
+          → read x schema room false i before s ≡ meant (read_below x schema room j before s) (newtype_data name)
       unfolding read_at read_below
       read_newtype_alone name j e u = rw e (rw u refl)
 
       pub read_newtype_wrapped : (name : Text) (j : ℕ) → slice_get schema i ≡ Some (newtype name j) → x.unwrap_newtypes ≡ false
-          → read x schema room false i before s ≡ pick (is_at left_parenthesis) (without_name x.explicit_struct_names (means (read_content x schema room false j) (newtype_data name))) (in_sequence (named name) (λ _ _. means (read_content x schema room false j) (newtype_data name))) s
+          → read x schema room false i before s
+          ≡ pick (is_at left_parenthesis) (without_name x.explicit_struct_names (means (read_content x schema room false j) (newtype_data name)))
+          (in_sequence (named name) (λ _ _. means (read_content x schema room false j) (newtype_data name))) s
       unfolding read_at read_content
       read_newtype_wrapped name j e u = rw e (rw u refl)

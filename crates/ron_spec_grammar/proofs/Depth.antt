@@ -30,7 +30,8 @@ module _ (test : ℕ → Bool) where
 -- ---- the least limit within which an answer is not too deep
 
 -- what is asked of an answer at each limit, and of what it tells
-module _ (answer_at : ℕ → Answer) (P : ℕ → Data → Type 0) (sound : (limit : ℕ) (c : Data) → answer_at limit ≡ ok c → P limit c) (complete : (limit : ℕ) (c : Data) → P limit c → answer_at limit ≡ ok c)
+module _ (answer_at : ℕ → Answer) (P : ℕ → Data → Type 0) (sound : (limit : ℕ) (c : Data) → answer_at limit ≡ ok c → P limit c)
+    (complete : (limit : ℕ) (c : Data) → P limit c → answer_at limit ≡ ok c)
     (unique : (m n : ℕ) (c e : Data) → P m c → P n e → c ≡ e) (too_deep : (limit n : ℕ) (c : Data) → P n c → (P limit c → ⊥) → answer_at limit ≡ err deep)
     (monotone : (m n : ℕ) (c : Data) → m ≤ n → P m c → P n c) (bound : ℕ) (d : Data) where
   not_deep : (limit : ℕ) → P limit d → is_deep (answer_at limit) ≡ false
@@ -43,7 +44,8 @@ module _ (answer_at : ℕ → Answer) (P : ℕ → Data → Type 0) (sound : (li
       go : (o : Answer) → answer_at limit ≡ o → is_deep o ≡ false → P limit d
       go (ok c) k f = let y = sound limit c k in subst (λ a. P limit a) (unique limit n c d y z) y
       go (err deep) k f = absurd (cc)
-      go (err bad) k f = absurd (let w : err bad ≡ err deep = sym k ∙ too_deep limit n d z (λ y. (let v : err bad ≡ ok d = sym k ∙ complete limit d y in cc)) in cc)
+      go (err bad) k f =
+          absurd (let w : err bad ≡ err deep = sym k ∙ too_deep limit n d z (λ y. (let v : err bad ≡ ok d = sym k ∙ complete limit d y in cc)) in cc)
 
   pub least_within : (limit : ℕ) → P limit d → first_failing (λ k. is_deep (answer_at k)) bound 0 ≤ limit
   least_within limit z = failing_least (λ k. is_deep (answer_at k)) bound 0 limit (omega arith) (not_deep limit z)
@@ -59,20 +61,30 @@ module _ (answer_at : ℕ → Answer) (P : ℕ → Data → Type 0) (sound : (li
 module _ (x : Extensions) (schema : List Shape) (root : ℕ) (text : Text) (d : Data) where
   pub depth_within : (limit : ℕ) → Body x schema root limit text d → body_depth x schema root text ≤ limit
   unfolding body_depth
-  depth_within = least_within (λ k. answer x schema root k text) (λ k c. Body x schema root k text c) (λ k. sound true x schema root k text) (λ k. complete true x schema root k text)
-      (λ m n. unique true x schema root m n text) (λ m n. too_deep true x schema root m n text) (λ m n. monotone true x schema root m n text) (enough schema false root (length text)) d
+  depth_within = least_within (λ k. answer x schema root k text) (λ k c. Body x schema root k text c) (λ k. sound true x schema root k text)
+      (λ k. complete true x schema root k text)
+      (λ m n. unique true x schema root m n text) (λ m n. too_deep true x schema root m n text) (λ m n. monotone true x schema root m n text)
+      (enough schema false root (length text)) d
 
-  pub within_depth : has_no_cycle schema ≡ true → (n limit : ℕ) → Body x schema root n text d → body_depth x schema root text ≤ limit → Body x schema root limit text d
+  pub within_depth : has_no_cycle schema ≡ true → (n limit : ℕ) → Body x schema root n text d → body_depth x schema root text ≤ limit
+      → Body x schema root limit text d
   unfolding body_depth
-  within_depth h n limit z = within_least (λ k. answer x schema root k text) (λ k c. Body x schema root k text c) (λ k. sound true x schema root k text) (λ k. complete true x schema root k text)
-      (λ m n. unique true x schema root m n text) (λ m n. too_deep true x schema root m n text) (λ m n. monotone true x schema root m n text) (enough schema false root (length text)) d (bounded true x schema root h n text d z) n limit z
+  within_depth h n limit z = within_least (λ k. answer x schema root k text) (λ k c. Body x schema root k text c) (λ k. sound true x schema root k text)
+      (λ k. complete true x schema root k text)
+      (λ m n. unique true x schema root m n text) (λ m n. too_deep true x schema root m n text) (λ m n. monotone true x schema root m n text)
+      (enough schema false root (length text)) d (bounded true x schema root h n text d z) n limit z
 
   pub document_within : (limit : ℕ) → Document x schema root limit text d → document_depth x schema root text ≤ limit
   unfolding document_depth
-  document_within = least_within (λ k. answer_document x schema root k text) (λ k c. Document x schema root k text c) (λ k. document.sound x schema root k text) (λ k. document.complete x schema root k text)
-      (λ m n. document.unique x schema root m n text) (λ m n. document.too_deep x schema root m n text) (λ m n. document.monotone x schema root m n text) (enough schema false root (length text)) d
+  document_within = least_within (λ k. answer_document x schema root k text) (λ k c. Document x schema root k text c) (λ k. document.sound x schema root k text)
+      (λ k. document.complete x schema root k text)
+      (λ m n. document.unique x schema root m n text) (λ m n. document.too_deep x schema root m n text) (λ m n. document.monotone x schema root m n text)
+      (enough schema false root (length text)) d
 
-  pub within_document : has_no_cycle schema ≡ true → (n limit : ℕ) → Document x schema root n text d → document_depth x schema root text ≤ limit → Document x schema root limit text d
+  pub within_document : has_no_cycle schema ≡ true → (n limit : ℕ) → Document x schema root n text d → document_depth x schema root text ≤ limit
+      → Document x schema root limit text d
   unfolding document_depth
-  within_document h n limit z = within_least (λ k. answer_document x schema root k text) (λ k c. Document x schema root k text c) (λ k. document.sound x schema root k text) (λ k. document.complete x schema root k text)
-      (λ m n. document.unique x schema root m n text) (λ m n. document.too_deep x schema root m n text) (λ m n. document.monotone x schema root m n text) (enough schema false root (length text)) d (document.bounded x schema root h n text d z) n limit z
+  within_document h n limit z = within_least (λ k. answer_document x schema root k text) (λ k c. Document x schema root k text c)
+      (λ k. document.sound x schema root k text) (λ k. document.complete x schema root k text)
+      (λ m n. document.unique x schema root m n text) (λ m n. document.too_deep x schema root m n text) (λ m n. document.monotone x schema root m n text)
+      (enough schema false root (length text)) d (document.bounded x schema root h n text d z) n limit z

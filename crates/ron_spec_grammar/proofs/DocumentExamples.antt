@@ -4,7 +4,8 @@ use Rattle.ron_spec_words.specs.Characters.{Text}
 use Rattle.ron_spec_words.specs.Reader.{deep, bad}
 use Rattle.ron_value_number.specs.declared.width.Width.TheVariants.{U8}
 use Rattle.ron_base.specs.Extensions.{no_extensions}
-use Rattle.ron_spec_grammar.specs.Data.{Data, int_of, some_of, list_of, tuple_of, newtype_of, struct_of, unit_variant_of, no_datas, data_and, no_fields, field_and}
+use Rattle.ron_spec_grammar.specs.Data.{Data, int_of, some_of, list_of, tuple_of, newtype_of, struct_of, unit_variant_of, no_datas, data_and, no_fields}
+use Rattle.ron_spec_grammar.specs.Data.{field_and}
 use Rattle.ron_spec_grammar.specs.Schema.{unit_variant, int, optional, seq, tuple, newtype, struct, enum, only, field}
 use Rattle.ron_spec_grammar.specs.Document.{Answer, ok, err, answer, answer_document}
 use Rattle.ron_spec_grammar.proofs.Computing.{reading}
@@ -87,7 +88,8 @@ unfolding reading
 behind_the_value = refl
 
 -- what several attributes announce is in force together
-two_attributes : answer_document no_extensions (optional 1 ∷ newtype (codes "N") 2 ∷ int U8 ∷ []) 0 2 (codes " #![type=\"t\"]#![ enable ( unwrap_newtypes ) ]#![enable(implicit_some)] 5") ≡ ok (some_of (newtype_of (codes "N") (small 5)))
+two_attributes : answer_document no_extensions (optional 1 ∷ newtype (codes "N") 2 ∷ int U8 ∷ []) 0 2
+    (codes " #![type=\"t\"]#![ enable ( unwrap_newtypes ) ]#![enable(implicit_some)] 5") ≡ ok (some_of (newtype_of (codes "N") (small 5)))
 unfolding reading
 two_attributes = refl
 
@@ -129,7 +131,8 @@ lists_65 = refl
 
 -- ---- names past ASCII
 
-letters : answer no_extensions (tuple (1 ∷ 2 ∷ []) ∷ enum (codes "E") (record { name = codes "Äöß"; content = unit_variant } ∷ []) ∷ enum (codes "F") (record { name = codes "你好世界"; content = unit_variant } ∷ []) ∷ []) 0 4 (codes "(Äöß,你好世界)")
+letters : answer no_extensions (tuple (1 ∷ 2 ∷ []) ∷ enum (codes "E") (record { name = codes "Äöß"; content = unit_variant } ∷ [])
+    ∷ enum (codes "F") (record { name = codes "你好世界"; content = unit_variant } ∷ []) ∷ []) 0 4 (codes "(Äöß,你好世界)")
     ≡ ok (tuple_of (data_and (unit_variant_of (codes "E") (codes "Äöß")) (data_and (unit_variant_of (codes "F") (codes "你好世界")) no_datas)))
 unfolding reading
 letters = refl

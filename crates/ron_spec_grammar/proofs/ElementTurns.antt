@@ -46,7 +46,12 @@ module _ (x : Extensions) (schema : List Shape) (room : ℕ) where
     reader seen = at_shape (below (rule x schema) too_deep room 1 false) (shape_behind es seen)
 
     elements_shrink : Shrinks reader
-    elements_shrink = record { at_most = λ seen gap t d rest e. shrinks _ _ (part_at {schema = schema} {room = room} 1 (below (rule x schema) too_deep room 1 false) (below (rule x schema) too_deep room 1 false) (below (Rule x schema) nothing_spelled room 1 false) (below_fit x schema (no_ranks schema room) room room 1 (omega arith) (omega arith) false) (size schema (λ i. room) true 0) (λ j. size_within schema (no_ranks schema room) 0 j) [] 0 (shape_behind es seen) gap).exact.sound t d rest e }
+    elements_shrink = record {
+      at_most = λ seen gap t d rest e.
+          shrinks _ _ (part_at {schema = schema} {room = room} 1 (below (rule x schema) too_deep room 1 false) (below (rule x schema) too_deep room 1 false)
+          (below (Rule x schema) nothing_spelled room 1 false) (below_fit x schema (no_ranks schema room) room room 1 (omega arith) (omega arith) false)
+          (size schema (λ i. room) true 0) (λ j. size_within schema (no_ranks schema room) 0 j) [] 0 (shape_behind es seen) gap).exact.sound t d rest e;
+    }
 
     module _ (close : ℕ) (c : Closes close) (f : List Data → Option Data) (seen : List Data) (before s : Text) where
       pub elements_over : (u : Text) → s ≡ close ∷ u → read_elements x schema room es close f seen before s ≡ given (f (all_items seen [])) u
@@ -54,7 +59,8 @@ module _ (x : Extensions) (schema : List Shape) (room : ℕ) where
       elements_over = group_over reader close f c elements_shrink seen before s
 
       module _ (open_still : is_at close s ≡ false) where
-        pub elements_failed : (k : Fault) → read_element x schema room es seen before s ≡ failed k → read_elements x schema room es close f seen before s ≡ failed k
+        pub elements_failed : (k : Fault) → read_element x schema room es seen before s ≡ failed k
+            → read_elements x schema room es close f seen before s ≡ failed k
         unfolding read_element read_elements
         elements_failed = group_failed reader close f c elements_shrink seen before s open_still
 
@@ -63,11 +69,13 @@ module _ (x : Extensions) (schema : List Shape) (room : ℕ) where
           unfolding read_element read_elements
           elements_last = group_last reader close f c elements_shrink seen before s open_still d rest e
 
-          pub elements_not_closed : is_at 44 (skip rest) ≡ false → is_at close (skip rest) ≡ false → read_elements x schema room es close f seen before s ≡ failed bad
+          pub elements_not_closed : is_at 44 (skip rest) ≡ false → is_at close (skip rest) ≡ false
+              → read_elements x schema room es close f seen before s ≡ failed bad
           unfolding read_element read_elements
           elements_not_closed = group_not_closed reader close f c elements_shrink seen before s open_still d rest e
 
-          pub elements_more : (u : Text) → skip rest ≡ 44 ∷ u → read_elements x schema room es close f seen before s ≡ after_gap (read_elements x schema room es close f (d ∷ seen)) u
+          pub elements_more : (u : Text) → skip rest ≡ 44 ∷ u
+              → read_elements x schema room es close f seen before s ≡ after_gap (read_elements x schema room es close f (d ∷ seen)) u
           unfolding read_element read_elements
           elements_more = group_more reader close f c elements_shrink seen before s open_still d rest e
 
@@ -82,9 +90,11 @@ module _ (x : Extensions) (schema : List Shape) (room : ℕ) where
     unfolding read_at
     read_the_unit e = rw e refl
 
-    pub seq_opened : (j : ℕ) → slice_get schema i ≡ Some (seq j) → (u : Text) → s ≡ left_bracket ∷ u → read x schema room false i before s ≡ after_gap (λ gap. needs 1 room (read_elements x schema room (of_one j) right_bracket list_data [] gap)) u
+    pub seq_opened : (j : ℕ) → slice_get schema i ≡ Some (seq j) → (u : Text) → s ≡ left_bracket ∷ u
+        → read x schema room false i before s ≡ after_gap (λ gap. needs 1 room (read_elements x schema room (of_one j) right_bracket list_data [] gap)) u
     unfolding read_at read_elements
-    seq_opened j e u o = rw (e, o) (group_opened (λ seen. at_shape (below (rule x schema) too_deep room 1 false) (Some j)) right_bracket list_data left_bracket 1 room u)
+    seq_opened j e u o =
+        rw (e, o) (group_opened (λ seen. at_shape (below (rule x schema) too_deep room 1 false) (Some j)) right_bracket list_data left_bracket 1 room u)
 
     pub seq_not_opened : (j : ℕ) → slice_get schema i ≡ Some (seq j) → is_at left_bracket s ≡ false → read x schema room false i before s ≡ failed bad
     unfolding read_at

@@ -3,8 +3,10 @@ use Rattle.std.proofs.Common.{◌≡◌, ℕ, true, false, List, [], ◌∷◌, 
 use Rattle.ron_spec_words.specs.Characters.{Text}
 use Rattle.ron_spec_words.specs.Reader.{deep, bad}
 use Rattle.ron_value_number.specs.declared.width.Width.TheVariants.{U8}
-use Rattle.ron_spec_grammar.specs.Data.{Data, bool_of, int_of, the_unit, the_none, some_of, newtype_of, tuple_of, struct_of, unit_variant_of, newtype_variant_of, tuple_variant_of, struct_variant_of, no_datas, data_and, no_fields, field_and}
-use Rattle.ron_spec_grammar.specs.Schema.{Shape, Variant, VariantShape, unit_variant, newtype_variant, tuple_variant, struct_variant, bool, int, unit, optional, newtype, tuple, struct, enum, is_well_formed, only, field}
+use Rattle.ron_spec_grammar.specs.Data.{Data, bool_of, int_of, the_unit, the_none, some_of, newtype_of, tuple_of, struct_of, unit_variant_of}
+use Rattle.ron_spec_grammar.specs.Data.{newtype_variant_of, tuple_variant_of, struct_variant_of, no_datas, data_and, no_fields, field_and}
+use Rattle.ron_spec_grammar.specs.Schema.{Shape, Variant, VariantShape, unit_variant, newtype_variant, tuple_variant, struct_variant, bool, int, unit, optional}
+use Rattle.ron_spec_grammar.specs.Schema.{newtype, tuple, struct, enum, is_well_formed, only, field}
 use Rattle.ron_spec_grammar.specs.Rule.{Extensions}
 use Rattle.ron_spec_grammar.specs.Document.{Answer, ok, err, answer}
 use Rattle.ron_spec_grammar.proofs.Computing.{reading}
@@ -24,7 +26,8 @@ small n = int_of U8 (pos n)
 
 -- one variant of each kind
 abbrev kinds : List Shape
-kinds = enum (codes "E") (variant (codes "A") unit_variant ∷ variant (codes "V") (newtype_variant 1) ∷ variant (codes "T") (tuple_variant (1 ∷ 2 ∷ [])) ∷ variant (codes "S") (struct_variant (only (field (codes "x") 1 ∷ []))) ∷ []) ∷ int U8 ∷ bool ∷ []
+kinds = enum (codes "E") (variant (codes "A") unit_variant ∷ variant (codes "V") (newtype_variant 1) ∷ variant (codes "T") (tuple_variant (1 ∷ 2 ∷ []))
+    ∷ variant (codes "S") (struct_variant (only (field (codes "x") 1 ∷ []))) ∷ []) ∷ int U8 ∷ bool ∷ []
 
 abbrev reads : Text → Answer
 reads text = answer none kinds 0 3 text
@@ -133,11 +136,13 @@ implicit_and_bare = record { unwrap_newtypes = false; implicit_some = true; unwr
 abbrev bare_and_named : Extensions
 bare_and_named = record { unwrap_newtypes = false; implicit_some = false; unwrap_variant_newtypes = true; explicit_struct_names = true }
 
-option_of_a_pair : holds_under implicit_and_bare (optional 2 ∷ tuple (3 ∷ 4 ∷ []) ∷ optional 4 ∷ int U8 ∷ []) (codes "V(Some(None,2))") ≡ ok (v_of (some_of (tuple_of (data_and the_none (data_and (small 2) no_datas)))))
+option_of_a_pair : holds_under implicit_and_bare (optional 2 ∷ tuple (3 ∷ 4 ∷ []) ∷ optional 4 ∷ int U8 ∷ []) (codes "V(Some(None,2))")
+    ≡ ok (v_of (some_of (tuple_of (data_and the_none (data_and (small 2) no_datas)))))
 unfolding reading
 option_of_a_pair = refl
 
-option_of_one_option : holds_under implicit_and_bare (optional 2 ∷ tuple (3 ∷ []) ∷ optional 4 ∷ int U8 ∷ []) (codes "V(Some(None))") ≡ ok (v_of (some_of (tuple_of (data_and the_none no_datas))))
+option_of_one_option : holds_under implicit_and_bare (optional 2 ∷ tuple (3 ∷ []) ∷ optional 4 ∷ int U8 ∷ []) (codes "V(Some(None))")
+    ≡ ok (v_of (some_of (tuple_of (data_and the_none no_datas))))
 unfolding reading
 option_of_one_option = refl
 
@@ -146,6 +151,7 @@ bare_point : holds_under bare_and_named (struct (codes "Point") (only (field (co
 unfolding reading
 bare_point = refl
 
-newtype_of_a_pair : holds_under bare (newtype (codes "N") 2 ∷ tuple (3 ∷ 3 ∷ []) ∷ int U8 ∷ []) (codes "V((1,2))") ≡ ok (v_of (newtype_of (codes "N") (tuple_of (data_and (small 1) (data_and (small 2) no_datas)))))
+newtype_of_a_pair : holds_under bare (newtype (codes "N") 2 ∷ tuple (3 ∷ 3 ∷ []) ∷ int U8 ∷ []) (codes "V((1,2))")
+    ≡ ok (v_of (newtype_of (codes "N") (tuple_of (data_and (small 1) (data_and (small 2) no_datas)))))
 unfolding reading
 newtype_of_a_pair = refl

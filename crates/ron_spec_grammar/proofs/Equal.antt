@@ -8,7 +8,9 @@ use Rattle.ron_spec_words.specs.Runs.{same_text}
 use Rattle.ron_value_number.specs.declared.width.Width.{Width}
 use Rattle.ron_value_number.specs.Width.{width_place, same_width}
 use Rattle.ron_value.specs.OrderLaws.{tree_cmp_total, tree_eq_same, width_at, width_back}
-use Rattle.ron_spec_grammar.specs.Data.{Data, bool_of, int_of, char_of, str_of, bytes_of, the_unit, the_none, some_of, unit_struct_of, list_of, tuple_of, tuple_struct_of, map_of, newtype_of, struct_of, unit_variant_of, newtype_variant_of, tuple_variant_of, struct_variant_of, value_of, raw_of, Datas, no_datas, data_and, Pairs, no_pairs, pair_and, Fields, no_fields, field_and}
+use Rattle.ron_spec_grammar.specs.Data.{Data, bool_of, int_of, char_of, str_of, bytes_of, the_unit, the_none, some_of, unit_struct_of, list_of, tuple_of}
+use Rattle.ron_spec_grammar.specs.Data.{tuple_struct_of, map_of, newtype_of, struct_of, unit_variant_of, newtype_variant_of, tuple_variant_of}
+use Rattle.ron_spec_grammar.specs.Data.{struct_variant_of, value_of, raw_of, Datas, no_datas, data_and, Pairs, no_pairs, pair_and, Fields, no_fields, field_and}
 use Rattle.ron_spec_grammar.specs.Equal.{equal_bool, equal_data, equal_items, equal_pairs, equal_fields}
 use Rattle.ron_spec_grammar.proofs.Finding.{same_is, same_self}
 
@@ -35,12 +37,15 @@ mutual
   data_is (unit_struct_of s) (unit_struct_of t) h = ap unit_struct_of (same_is s t h)
   data_is (list_of ds) (list_of es) h = ap list_of (items_are ds es h)
   data_is (tuple_of ds) (tuple_of es) h = ap tuple_of (items_are ds es h)
-  data_is (tuple_struct_of s ds) (tuple_struct_of t es) h = let k = and_parts (same_text s t) (equal_items ds es) h in ap₂ tuple_struct_of (same_is s t k.0) (items_are ds es k.1)
+  data_is (tuple_struct_of s ds) (tuple_struct_of t es) h = let k = and_parts (same_text s t) (equal_items ds es) h in
+      ap₂ tuple_struct_of (same_is s t k.0) (items_are ds es k.1)
   data_is (map_of ps) (map_of qs) h = ap map_of (pairs_are ps qs h)
   data_is (newtype_of s d) (newtype_of t e) h = let k = and_parts (same_text s t) (equal_data d e) h in ap₂ newtype_of (same_is s t k.0) (data_is d e k.1)
-  data_is (struct_of s ds) (struct_of t es) h = let k = and_parts (same_text s t) (equal_fields ds es) h in ap₂ struct_of (same_is s t k.0) (fields_are ds es k.1)
+  data_is (struct_of s ds) (struct_of t es) h = let k = and_parts (same_text s t) (equal_fields ds es) h in
+      ap₂ struct_of (same_is s t k.0) (fields_are ds es k.1)
   data_is (int_of v m) (int_of w n) h = let k = and_parts (same_width v w) (int_eq m n) h in ap₂ int_of (width_is v w k.0) ((Decides-int_eq m n).0 k.1)
-  data_is (unit_variant_of s v) (unit_variant_of t w) h = let k = and_parts (same_text s t) (same_text v w) h in ap₂ unit_variant_of (same_is s t k.0) (same_is v w k.1)
+  data_is (unit_variant_of s v) (unit_variant_of t w) h = let k = and_parts (same_text s t) (same_text v w) h in
+      ap₂ unit_variant_of (same_is s t k.0) (same_is v w k.1)
   data_is (newtype_variant_of s v d) (newtype_variant_of t w e) h =
       let a = and_parts (same_text s t) (same_text v w && equal_data d e) h in
       let b = and_parts (same_text v w) (equal_data d e) a.1 in
@@ -103,9 +108,12 @@ mutual
   data_self (newtype_of name d) = and_from (same_text name name) (equal_data d d) (same_self name) (data_self d)
   data_self (struct_of name ds) = and_from (same_text name name) (equal_fields ds ds) (same_self name) (fields_self ds)
   data_self (unit_variant_of name v) = and_from (same_text name name) (same_text v v) (same_self name) (same_self v)
-  data_self (newtype_variant_of name v d) = and_from (same_text name name) _ (same_self name) (and_from (same_text v v) (equal_data d d) (same_self v) (data_self d))
-  data_self (tuple_variant_of name v ds) = and_from (same_text name name) _ (same_self name) (and_from (same_text v v) (equal_items ds ds) (same_self v) (items_self ds))
-  data_self (struct_variant_of name v ds) = and_from (same_text name name) _ (same_self name) (and_from (same_text v v) (equal_fields ds ds) (same_self v) (fields_self ds))
+  data_self (newtype_variant_of name v d) =
+      and_from (same_text name name) _ (same_self name) (and_from (same_text v v) (equal_data d d) (same_self v) (data_self d))
+  data_self (tuple_variant_of name v ds) =
+      and_from (same_text name name) _ (same_self name) (and_from (same_text v v) (equal_items ds ds) (same_self v) (items_self ds))
+  data_self (struct_variant_of name v ds) =
+      and_from (same_text name name) _ (same_self name) (and_from (same_text v v) (equal_fields ds ds) (same_self v) (fields_self ds))
   data_self (raw_of t) = same_self t
   data_self (value_of t) = (eq_by_cmp_equiv tree_cmp_total).refl t
 
@@ -119,4 +127,5 @@ mutual
 
   fields_self : (ds : Fields) → equal_fields ds ds ≡ true
   fields_self no_fields = refl
-  fields_self (field_and name d ds) = and_from (same_text name name) _ (same_self name) (and_from (equal_data d d) (equal_fields ds ds) (data_self d) (fields_self ds))
+  fields_self (field_and name d ds) =
+      and_from (same_text name name) _ (same_self name) (and_from (equal_data d d) (equal_fields ds ds) (data_self d) (fields_self ds))

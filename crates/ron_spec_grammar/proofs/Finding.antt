@@ -1,5 +1,6 @@
 -- Finding a field by its name or by what a text calls it: for the tables and slots of `ron_data` and the readers that fill them.
-use Rattle.std.proofs.Common.{◌≡◌, ℕ, zero, suc, Bool, true, false, not, ◌||◌, cond, List, [], ◌∷◌, ◌++◌, Option, Some, None, option_map, slice_get, find, refl, sym, ap, subst, ◌∙◌}
+use Rattle.std.proofs.Common.{◌≡◌, ℕ, zero, suc, Bool, true, false, not, ◌||◌, cond, List, [], ◌∷◌, ◌++◌, Option, Some, None, option_map, slice_get, find, refl}
+use Rattle.std.proofs.Common.{sym, ap, subst, ◌∙◌}
 use Rattle.std.specs.List.{list_any, list_all}
 use Rattle.std.specs.Option.{option_and_then}
 use Rattle.std.proofs.lemmas.Slice.Eq.{bytes_eq-Decides}
@@ -121,12 +122,15 @@ differ_behind [] ys h = h
 differ_behind (x ∷ xs) ys h = differ_behind xs ys (and_parts (not (holds_text x (xs ++ ys))) (all_differ (xs ++ ys)) h).1
 
 -- what calls a field behind the first one doesn't call the first
-pub called_apart : (f : Field) (fields : List Field) → names_differ (f ∷ fields) ≡ true → Each (λ g. (n : Text) → is_called n g ≡ true → is_called n f ≡ false) fields
+pub called_apart : (f : Field) (fields : List Field) → names_differ (f ∷ fields) ≡ true
+    → Each (λ g. (n : Text) → is_called n g ≡ true → is_called n f ≡ false) fields
 called_apart f fields h = go fields (differ_apart (f.name ∷ f.aliases) (all_names fields) h)
   where
-    go : (fields : List Field) → Each (λ n. is_called n f ≡ false) (all_names fields) → Each (λ g. (n : Text) → is_called n g ≡ true → is_called n f ≡ false) fields
+    go : (fields : List Field) → Each (λ n. is_called n f ≡ false) (all_names fields)
+        → Each (λ g. (n : Text) → is_called n g ≡ true → is_called n f ≡ false) fields
     go [] o = tt
-    go (g ∷ fields) o = let k = each_parts (λ n. is_called n f ≡ false) (g.name ∷ g.aliases) (all_names fields) o in (λ n e. held (λ n. is_called n f ≡ false) n (g.name ∷ g.aliases) e k.0, go fields k.1)
+    go (g ∷ fields) o = let k = each_parts (λ n. is_called n f ≡ false) (g.name ∷ g.aliases) (all_names fields) o in
+        (λ n e. held (λ n. is_called n f ≡ false) n (g.name ∷ g.aliases) e k.0, go fields k.1)
 
 -- nor does a name of its own, which is no name of the first
 pub not_called : (f : Field) (fields : List Field) → names_differ (f ∷ fields) ≡ true → Each (λ g. is_called g.name f ≡ false) fields
@@ -148,7 +152,8 @@ not_named f fields h = go fields (not_called f fields h)
     go (g ∷ fields) o = (alone (is_named g.name f) (holds_text g.name f.aliases) o.0, go fields o.1)
 
 -- the first field's name is none of the others', and their names differ
-pub names_parts : (f : Field) (fields : List Field) → names_differ (f ∷ fields) ≡ true → (not (list_any (is_named f.name) fields) ≡ true) × (names_differ fields ≡ true)
+pub names_parts : (f : Field) (fields : List Field) → names_differ (f ∷ fields) ≡ true
+    → (not (list_any (is_named f.name) fields) ≡ true) × (names_differ fields ≡ true)
 names_parts f fields h = (none fields (not_named f fields h), differ_behind (f.name ∷ f.aliases) (all_names fields) h)
   where
     none : (fields : List Field) → Each (λ g. is_named g.name f ≡ false) fields → not (list_any (is_named f.name) fields) ≡ true
@@ -156,12 +161,14 @@ names_parts f fields h = (none fields (not_named f fields h), differ_behind (f.n
     none (g ∷ fields) o = rw (other_sym f.name g.name o.0) (none fields o.1)
 
 -- by its own name each field is found, with a test that passes there and at no other field
-each_found : (test : Text → Field → Bool) → ((f : Field) → test f.name f ≡ true) → ((f : Field) (fields : List Field) → names_differ (f ∷ fields) ≡ true → Each (λ g. test g.name f ≡ false) fields)
+each_found : (test : Text → Field → Bool) → ((f : Field) → test f.name f ≡ true)
+    → ((f : Field) (fields : List Field) → names_differ (f ∷ fields) ≡ true → Each (λ g. test g.name f ≡ false) fields)
     → (fields : List Field) → names_differ fields ≡ true → Each (λ f. find (test f.name) fields ≡ Some f) fields
 each_found test own other [] h = tt
 each_found test own other (f ∷ fields) h = (rw (own f) refl, behind fields (other f fields h) (each_found test own other fields (names_parts f fields h).1))
   where
-    behind : (more : List Field) → Each (λ g. test g.name f ≡ false) more → Each (λ g. find (test g.name) fields ≡ Some g) more → Each (λ g. find (test g.name) (f ∷ fields) ≡ Some g) more
+    behind : (more : List Field) → Each (λ g. test g.name f ≡ false) more → Each (λ g. find (test g.name) fields ≡ Some g) more
+        → Each (λ g. find (test g.name) (f ∷ fields) ≡ Some g) more
     behind [] o h = tt
     behind (g ∷ more) o h = (rw o.0 h.0, behind more o.1 h.1)
 
@@ -195,7 +202,8 @@ pub named_called : (n : Text) (fields : List Field) → list_any (is_named n) fi
 named_called n [] e = absurd (cc)
 named_called n (f ∷ fields) e = go (is_named n f) e (named_called n fields)
   where
-    go : (b : Bool) → (b || list_any (is_named n) fields) ≡ true → (list_any (is_named n) fields ≡ true → list_any (is_called n) fields ≡ true) → ((b || holds_text n f.aliases) || list_any (is_called n) fields) ≡ true
+    go : (b : Bool) → (b || list_any (is_named n) fields) ≡ true → (list_any (is_named n) fields ≡ true → list_any (is_called n) fields ≡ true)
+        → ((b || holds_text n f.aliases) || list_any (is_called n) fields) ≡ true
     go true k ih = refl
     go false k ih = or_right (holds_text n f.aliases) (list_any (is_called n) fields) (ih k)
 

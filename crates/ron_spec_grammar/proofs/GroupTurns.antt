@@ -24,20 +24,26 @@ module _ (x : Extensions) (schema : List Shape) (room : ℕ) where
     unfolding read_field_group
     field_group_not_opened e = no_group left_parenthesis s _ e
 
-    pub field_group_opened : (u : Text) → s ≡ left_parenthesis ∷ u → read_field_group x schema room make list s ≡ after_gap (λ gap. read_fields_inside x schema room make list gap) u
+    pub field_group_opened : (u : Text) → s ≡ left_parenthesis ∷ u
+        → read_field_group x schema room make list s ≡ after_gap (λ gap. read_fields_inside x schema room make list gap) u
     unfolding read_field_group read_fields_inside read_fields
-    field_group_opened u o = rw o (group_opened (λ seen _. field_item list (below (rule x schema) too_deep room 1 false) (read_any_below x.unwrap_variant_newtypes room 1) seen) right_parenthesis (with_fields make list) left_parenthesis 1 room u)
+    field_group_opened u o = rw o (group_opened (λ seen _. field_item list (below (rule x schema) too_deep room 1 false)
+        (read_any_below x.unwrap_variant_newtypes room 1) seen) right_parenthesis (with_fields make list) left_parenthesis 1 room u)
 
   module _ (i : ℕ) (before s : Text) where
     -- ---- a struct
 
     pub read_struct_of : (name : Text) (list : FieldList) → slice_get schema i ≡ Some (struct name list) → opens_interval s ≡ false
-        → read x schema room false i before s ≡ pick (is_at left_parenthesis) (without_name x.explicit_struct_names (read_field_group x schema room (struct_of name) list)) (in_sequence (named name) (λ _ _. read_field_group x schema room (struct_of name) list)) s
+        → read x schema room false i before s ≡ pick (is_at left_parenthesis) (without_name x.explicit_struct_names
+        (read_field_group x schema room (struct_of name) list)) (in_sequence (named name) (λ _ _. read_field_group x schema room (struct_of name) list)) s
     unfolding read_at read_field_group
     read_struct_of name list e f = rw e (ap (λ b. cond b (read_range false (range_data schema name list.fields) s)
-        (pick (is_at left_parenthesis) (without_name x.explicit_struct_names (read_field_group x schema room (struct_of name) list)) (in_sequence (named name) (λ _ _. read_field_group x schema room (struct_of name) list)) s)) f)
+        (pick (is_at left_parenthesis) (without_name x.explicit_struct_names (read_field_group x schema room (struct_of name) list))
+        (in_sequence (named name) (λ _ _. read_field_group x schema room (struct_of name) list)) s)) f)
 
-    pub read_range_of : (name : Text) (list : FieldList) → slice_get schema i ≡ Some (struct name list) → opens_interval s ≡ true → read x schema room false i before s ≡ meant (number_or_range s) (range_data schema name list.fields)
+    pub read_range_of : (name : Text) (list : FieldList) → slice_get schema i ≡ Some (struct name list) → opens_interval s ≡ true
+        → read x schema room false i before s ≡ meant (number_or_range s) (range_data schema name list.fields)
     unfolding read_at read_field_group
     read_range_of name list e f = rw e (ap (λ b. cond b (read_range false (range_data schema name list.fields) s)
-        (pick (is_at left_parenthesis) (without_name x.explicit_struct_names (read_field_group x schema room (struct_of name) list)) (in_sequence (named name) (λ _ _. read_field_group x schema room (struct_of name) list)) s)) f)
+        (pick (is_at left_parenthesis) (without_name x.explicit_struct_names (read_field_group x schema room (struct_of name) list))
+        (in_sequence (named name) (λ _ _. read_field_group x schema room (struct_of name) list)) s)) f)

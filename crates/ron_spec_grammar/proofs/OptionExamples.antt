@@ -3,7 +3,8 @@ use Rattle.std.proofs.Common.{◌≡◌, ℕ, Bool, true, false, [], ◌∷◌, 
 use Rattle.ron_spec_words.specs.Characters.{Text}
 use Rattle.ron_spec_words.specs.Reader.{deep, bad}
 use Rattle.ron_value_number.specs.declared.width.Width.TheVariants.{U8}
-use Rattle.ron_spec_grammar.specs.Data.{Data, bool_of, int_of, the_unit, the_none, some_of, unit_struct_of, tuple_of, newtype_of, struct_of, no_datas, data_and, no_fields}
+use Rattle.ron_spec_grammar.specs.Data.{Data, bool_of, int_of, the_unit, the_none, some_of, unit_struct_of, tuple_of, newtype_of, struct_of, no_datas, data_and}
+use Rattle.ron_spec_grammar.specs.Data.{no_fields}
 use Rattle.ron_spec_grammar.specs.Schema.{bool, int, unit, optional, unit_struct, seq, tuple, newtype, struct, is_well_formed, only}
 use Rattle.ron_spec_grammar.specs.Rule.{Extensions}
 use Rattle.ron_spec_grammar.specs.Room.{rank, chain}
@@ -162,7 +163,8 @@ unfolding reading
 name_required = refl
 
 -- bare it is its content, and that is not bare
-bare_newtype : answer bare (optional 1 ∷ newtype (codes "N") 2 ∷ tuple (3 ∷ []) ∷ int U8 ∷ []) 0 4 (codes "Some((1),)") ≡ ok (some_of (newtype_of (codes "N") (tuple_of (data_and (small 1) no_datas))))
+bare_newtype : answer bare (optional 1 ∷ newtype (codes "N") 2 ∷ tuple (3 ∷ []) ∷ int U8 ∷ []) 0 4 (codes "Some((1),)")
+    ≡ ok (some_of (newtype_of (codes "N") (tuple_of (data_and (small 1) no_datas))))
 unfolding reading
 bare_newtype = refl
 

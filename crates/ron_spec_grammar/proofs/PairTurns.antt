@@ -43,7 +43,12 @@ module _ (x : Extensions) (schema : List Shape) (room k v : ℕ) where
   reader seen = pair_item k v (below (rule x schema) too_deep room 1 false)
 
   pairs_shrink : Shrinks reader
-  pairs_shrink = record { at_most = λ seen gap t p rest e. shrinks _ _ (part_pair schema room (below (rule x schema) too_deep room 1 false) (below (rule x schema) too_deep room 1 false) (below (Rule x schema) nothing_spelled room 1 false) (below_fit x schema (no_ranks schema room) room room 1 (omega arith) (omega arith) false) (size schema (λ i. room) true 0) (λ j. size_within schema (no_ranks schema room) 0 j) k v gap).exact.sound t p rest e }
+  pairs_shrink = record {
+    at_most =
+        λ seen gap t p rest e. shrinks _ _ (part_pair schema room (below (rule x schema) too_deep room 1 false) (below (rule x schema) too_deep room 1 false)
+        (below (Rule x schema) nothing_spelled room 1 false) (below_fit x schema (no_ranks schema room) room room 1 (omega arith) (omega arith) false)
+        (size schema (λ i. room) true 0) (λ j. size_within schema (no_ranks schema room) 0 j) k v gap).exact.sound t p rest e;
+  }
 
   module _ (seen : List (Data × Data)) (before s : Text) where
     pub pairs_over : (u : Text) → s ≡ right_brace ∷ u → read_pairs x schema room k v seen before s ≡ given (map_data (all_items seen [])) u
@@ -71,7 +76,8 @@ module _ (x : Extensions) (schema : List Shape) (room k v : ℕ) where
   -- ---- at an index of the table
 
   module _ (i : ℕ) (before s : Text) (is_map : slice_get schema i ≡ Some (map k v)) where
-    pub map_opened : (u : Text) → s ≡ left_brace ∷ u → read x schema room false i before s ≡ after_gap (λ gap. needs 1 room (read_pairs x schema room k v [] gap)) u
+    pub map_opened : (u : Text) → s ≡ left_brace ∷ u
+        → read x schema room false i before s ≡ after_gap (λ gap. needs 1 room (read_pairs x schema room k v [] gap)) u
     unfolding read_at read_pairs
     map_opened u o = rw (is_map, o) (group_opened (λ _. pair_item k v (below (rule x schema) too_deep room 1 false)) right_brace map_data left_brace 1 room u)
 

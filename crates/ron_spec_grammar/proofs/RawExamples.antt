@@ -4,7 +4,8 @@ use Rattle.ron_spec_words.specs.Characters.{Text}
 use Rattle.ron_spec_words.specs.Reader.{deep, bad, got}
 use Rattle.ron_value_number.specs.declared.width.Width.TheVariants.{U8}
 use Rattle.ron_base.specs.Extensions.{no_extensions}
-use Rattle.ron_spec_grammar.specs.Data.{Data, int_of, raw_of, the_none, some_of, list_of, tuple_of, newtype_of, newtype_variant_of, map_of, no_datas, data_and, no_pairs, pair_and}
+use Rattle.ron_spec_grammar.specs.Data.{Data, int_of, raw_of, the_none, some_of, list_of, tuple_of, newtype_of, newtype_variant_of, map_of, no_datas, data_and}
+use Rattle.ron_spec_grammar.specs.Data.{no_pairs, pair_and}
 use Rattle.ron_spec_grammar.specs.Schema.{Shape, any_raw, int, optional, seq, tuple, map, newtype, enum, newtype_variant}
 use Rattle.ron_spec_grammar.specs.Rule.{Extensions}
 use Rattle.ron_spec_grammar.specs.Reading.{read_at}
@@ -69,7 +70,8 @@ whole_in_an_implicit_some : reads implicit (optional 1 ∷ any_raw ∷ []) (code
 unfolding reading
 whole_in_an_implicit_some = refl
 
-whole_in_an_unwrapped_newtype : reads unwrapped (optional 1 ∷ newtype (codes "N") 2 ∷ any_raw ∷ []) (codes " 5 ") ≡ ok (some_of (newtype_of (codes "N") (raw_of (codes " 5 "))))
+whole_in_an_unwrapped_newtype : reads unwrapped (optional 1 ∷ newtype (codes "N") 2 ∷ any_raw ∷ []) (codes " 5 ")
+    ≡ ok (some_of (newtype_of (codes "N") (raw_of (codes " 5 "))))
 unfolding reading
 whole_in_an_unwrapped_newtype = refl
 
@@ -96,20 +98,24 @@ no_option_is_raw : reads implicit (optional 1 ∷ any_raw ∷ []) (codes " None 
 unfolding reading
 no_option_is_raw = refl
 
-last_in_a_tuple : reads no_extensions (tuple (1 ∷ 2 ∷ []) ∷ int U8 ∷ any_raw ∷ []) (codes "(1, A ,)") ≡ ok (tuple_of (data_and (int_of U8 (pos 1)) (data_and (raw_of (codes "A ")) no_datas)))
+last_in_a_tuple : reads no_extensions (tuple (1 ∷ 2 ∷ []) ∷ int U8 ∷ any_raw ∷ []) (codes "(1, A ,)")
+    ≡ ok (tuple_of (data_and (int_of U8 (pos 1)) (data_and (raw_of (codes "A ")) no_datas)))
 unfolding reading
 last_in_a_tuple = refl
 
-as_keys : reads no_extensions (map 1 2 ∷ any_raw ∷ int U8 ∷ []) (codes "{ A : 1, 5 /*k*/ :2}") ≡ ok (map_of (pair_and (raw_of (codes "A ")) (int_of U8 (pos 1)) (pair_and (raw_of (codes "5 /*k*/")) (int_of U8 (pos 2)) no_pairs)))
+as_keys : reads no_extensions (map 1 2 ∷ any_raw ∷ int U8 ∷ []) (codes "{ A : 1, 5 /*k*/ :2}")
+    ≡ ok (map_of (pair_and (raw_of (codes "A ")) (int_of U8 (pos 1)) (pair_and (raw_of (codes "5 /*k*/")) (int_of U8 (pos 2)) no_pairs)))
 unfolding reading
 as_keys = refl
 
 -- keys are compared by their text
-a_key_that_comes_again : reads no_extensions (map 1 2 ∷ any_raw ∷ int U8 ∷ []) (codes "{ 5 : 1, 5:2, 5/**/:3}") ≡ ok (map_of (pair_and (raw_of (codes "5")) (int_of U8 (pos 2)) (pair_and (raw_of (codes "5/**/")) (int_of U8 (pos 3)) no_pairs)))
+a_key_that_comes_again : reads no_extensions (map 1 2 ∷ any_raw ∷ int U8 ∷ []) (codes "{ 5 : 1, 5:2, 5/**/:3}")
+    ≡ ok (map_of (pair_and (raw_of (codes "5")) (int_of U8 (pos 2)) (pair_and (raw_of (codes "5/**/")) (int_of U8 (pos 3)) no_pairs)))
 unfolding reading
 a_key_that_comes_again = refl
 
-as_values : reads no_extensions (map 1 2 ∷ int U8 ∷ any_raw ∷ []) (codes "{1: [ 2 ] , 3 :A }") ≡ ok (map_of (pair_and (int_of U8 (pos 1)) (raw_of (codes "[ 2 ]")) (pair_and (int_of U8 (pos 3)) (raw_of (codes "A ")) no_pairs)))
+as_values : reads no_extensions (map 1 2 ∷ int U8 ∷ any_raw ∷ []) (codes "{1: [ 2 ] , 3 :A }")
+    ≡ ok (map_of (pair_and (int_of U8 (pos 1)) (raw_of (codes "[ 2 ]")) (pair_and (int_of U8 (pos 3)) (raw_of (codes "A ")) no_pairs)))
 unfolding reading
 as_values = refl
 
@@ -117,7 +123,8 @@ bare_content : reads bare (optional 1 ∷ any_raw ∷ []) (codes "Some( A , )") 
 unfolding reading
 bare_content = refl
 
-bare_in_a_variant : reads bare (enum (codes "E") (record { name = codes "V"; content = newtype_variant 1 } ∷ []) ∷ any_raw ∷ []) (codes "V( 5 )") ≡ ok (newtype_variant_of (codes "E") (codes "V") (raw_of (codes "5")))
+bare_in_a_variant : reads bare (enum (codes "E") (record { name = codes "V"; content = newtype_variant 1 } ∷ []) ∷ any_raw ∷ []) (codes "V( 5 )")
+    ≡ ok (newtype_variant_of (codes "E") (codes "V") (raw_of (codes "5")))
 unfolding reading
 bare_in_a_variant = refl
 

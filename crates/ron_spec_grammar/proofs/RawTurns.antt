@@ -9,7 +9,8 @@ use Rattle.ron_spec_words.specs.Directly.{stands}
 use Rattle.std.specs.Prelude.{codes}
 use Rattle.ron_value.specs.Tree.{Tree}
 use Rattle.ron_spec_grammar.specs.Data.{Data, raw_of}
-use Rattle.ron_spec_grammar.specs.Schema.{Shape, bool, int, char, str, bytes, unit, unit_struct, seq, tuple, tuple_struct, map, struct, enum, any_value, optional, newtype, any_raw}
+use Rattle.ron_spec_grammar.specs.Schema.{Shape, bool, int, char, str, bytes, unit, unit_struct, seq, tuple, tuple_struct, map, struct, enum, any_value}
+use Rattle.ron_spec_grammar.specs.Schema.{optional, newtype, any_raw}
 use Rattle.ron_spec_grammar.specs.Rule.{Extensions, below}
 use Rattle.ron_spec_grammar.specs.Reading.{read, read_at, rule, too_deep}
 use Rattle.ron_spec_grammar.specs.Values.Grammar.{read_any}
@@ -46,12 +47,14 @@ abbrev pub if_taken : Text → Text → Got Data
 if_taken t rest = cond (raw_valid t) (got (raw_of t) rest) (failed bad)
 
 module _ (at_start : Bool) (x : Extensions) (schema : List Shape) where
-  pub below_from_here : (room i : ℕ) (before s : Text) → read_below_from at_start x schema (suc room) i before s ≡ read_at at_start x schema room false i before s
+  pub below_from_here : (room i : ℕ) (before s : Text)
+      → read_below_from at_start x schema (suc room) i before s ≡ read_at at_start x schema room false i before s
   unfolding read_below_from read_at
   below_from_here room i before s = refl
 
   module _ (room i : ℕ) (before s : Text) where
-    pub anywhere : (shape : Shape) → is_same_anywhere shape ≡ true → slice_get schema i ≡ Some shape → read_at at_start x schema room false i before s ≡ read x schema room false i before s
+    pub anywhere : (shape : Shape) → is_same_anywhere shape ≡ true → slice_get schema i ≡ Some shape
+        → read_at at_start x schema room false i before s ≡ read x schema room false i before s
     unfolding read_at
     anywhere bool h e = rw e refl
     anywhere (int w) h e = rw e refl
@@ -69,11 +72,13 @@ module _ (at_start : Bool) (x : Extensions) (schema : List Shape) where
     anywhere any_value h e = rw e refl
     anywhere _ h e = absurd (cc)
 
-    pub option_here : (j : ℕ) → slice_get schema i ≡ Some (optional j) → stands (codes "None") s ≡ false → opens_some s ≡ false → x.implicit_some ≡ true → read_at at_start x schema room false i before s ≡ meant (read_below_from at_start x schema room j before s) some_data
+    pub option_here : (j : ℕ) → slice_get schema i ≡ Some (optional j) → stands (codes "None") s ≡ false → opens_some s ≡ false → x.implicit_some ≡ true
+        → read_at at_start x schema room false i before s ≡ meant (read_below_from at_start x schema room j before s) some_data
     unfolding read_at read_below_from
     option_here j is n e k = rw (is, n, e, k) refl
 
-    pub newtype_here : (name : Text) (j : ℕ) → slice_get schema i ≡ Some (newtype name j) → x.unwrap_newtypes ≡ true → read_at at_start x schema room false i before s ≡ meant (read_below_from at_start x schema room j before s) (newtype_data name)
+    pub newtype_here : (name : Text) (j : ℕ) → slice_get schema i ≡ Some (newtype name j) → x.unwrap_newtypes ≡ true
+        → read_at at_start x schema room false i before s ≡ meant (read_below_from at_start x schema room j before s) (newtype_data name)
     unfolding read_at read_below_from
     newtype_here name j e u = rw e (rw u refl)
 
@@ -85,4 +90,5 @@ module _ (at_start : Bool) (x : Extensions) (schema : List Shape) where
       module _ (v : Tree) (rest : Text) (e : read_any x.unwrap_variant_newtypes room false before s ≡ got v rest) where
         pub raw_slash : is_at slash (skip rest) ≡ true → read_at at_start x schema room false i before s ≡ failed bad
         raw_slash h = raw_is ∙ ap (λ o. meant (and_then (passed s o) (λ core after. means (give done) (taken at_start before core after))) raw_data) e
-            ∙ ap (λ b. meant (cond b (failed bad) (means (give done) (taken at_start before (take (length s - length rest) s) (gap_of rest)) (skip rest))) raw_data) h
+            ∙ ap (λ b.
+            meant (cond b (failed bad) (means (give done) (taken at_start before (take (length s - length rest) s) (gap_of rest)) (skip rest))) raw_data) h

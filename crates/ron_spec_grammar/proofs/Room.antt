@@ -1,5 +1,6 @@
 -- Levels that are enough for a text: a reader function answers the same with any room above it. For code that counts levels down.
-use Rattle.std.proofs.Common.{◌≡◌, ℕ, zero, suc, ◌+◌, ◌*◌, ◌≤◌, ◌<◌, Bool, true, false, if◌then◌else◌, List, length, ◌⊎◌, inl, inr, Option, Some, None, slice_get, refl, sym, ap, ◌∙◌, arith, mul-le-mul_right}
+use Rattle.std.proofs.Common.{◌≡◌, ℕ, zero, suc, ◌+◌, ◌*◌, ◌≤◌, ◌<◌, Bool, true, false, if◌then◌else◌, List, length, ◌⊎◌, inl, inr, Option, Some, None}
+use Rattle.std.proofs.Common.{slice_get, refl, sym, ap, ◌∙◌, arith, mul-le-mul_right}
 use Rattle.std.specs.Option.{option_and_then}
 use Rattle.ron_spec_grammar.specs.Schema.{Shape, content_of, content_at, ends_within, has_no_cycle}
 use Rattle.ron_spec_grammar.specs.Room.{step, chain_from, rank, enough}
@@ -35,7 +36,8 @@ module _ (schema : List Shape) where
   enough_of false i n = omega arith
 
   pub enough_rises : (bare : Bool) (i m n : ℕ) → m ≤ n → enough schema bare i m ≤ enough schema bare i n
-  enough_rises bare i m n le = let k : m * step schema ≤ n * step schema = mul-le-mul_right (step schema) le in omega (arith, enough_of bare i m, enough_of bare i n, k)
+  enough_rises bare i m n le = let k : m * step schema ≤ n * step schema = mul-le-mul_right (step schema) le in
+      omega (arith, enough_of bare i m, enough_of bare i n, k)
 
   -- ---- the chains of a schema without cycles
 
@@ -56,7 +58,8 @@ module _ (schema : List Shape) where
   unfolding rank
   rank_falls h i j e = go (length schema) (ends_at h i)
     where
-      go : (n : ℕ) → ends_within schema n (content_at schema i) ≡ true → suc (chain_from schema n (content_at schema j)) ≤ chain_from schema n (content_at schema i)
+      go : (n : ℕ) → ends_within schema n (content_at schema i) ≡ true
+          → suc (chain_from schema n (content_at schema j)) ≤ chain_from schema n (content_at schema i)
       go zero k = absurd (let q : ends_within schema 0 (Some j) ≡ true = ap (ends_within schema 0) (sym e) ∙ k in cc)
       go (suc n) k =
           let ends : ends_within schema n (content_at schema j) ≡ true = ap (ends_within schema (suc n)) (sym e) ∙ k in
@@ -88,10 +91,12 @@ module _ (schema : List Shape) where
     size_content false i j = let le = sizes.near i j in omega (arith, le, step_is)
 
     -- one level down with no bracket
-    pub size_chain : (bare : Bool) (i j : ℕ) → content_at schema i ≡ Some j → (size schema base bare j + 1 ≤ size schema base bare i) ⊎ (top < size schema base bare i)
+    pub size_chain : (bare : Bool) (i j : ℕ) → content_at schema i ≡ Some j
+        → (size schema base bare j + 1 ≤ size schema base bare i) ⊎ (top < size schema base bare i)
     size_chain bare i j e = go bare (sizes.chain i j e)
       where
-        go : (bare : Bool) → (suc (base j) ≤ base i) ⊎ (top ≤ base i) → (size schema base bare j + 1 ≤ size schema base bare i) ⊎ (top < size schema base bare i)
+        go : (bare : Bool) → (suc (base j) ≤ base i) ⊎ (top ≤ base i)
+            → (size schema base bare j + 1 ≤ size schema base bare i) ⊎ (top < size schema base bare i)
         go true (inl le) = inl (omega arith)
         go false (inl le) = inl (omega arith)
         go true (inr le) = inr (omega arith)

@@ -25,15 +25,18 @@ pub record IsDataOf (schema : List Shape) (room k i : ℕ) (d : Data) : Type 0 w
 
 -- what is owed k levels further down, where each index has this number
 pub record Fit (schema : List Shape) (base : ℕ → ℕ) (room k : ℕ) (q r : Readers) (L : Langs) : Type 0 where
-  pub part : (bare : Bool) (i : ℕ) (before : Text) → Part room (step schema) bare (IsDataOf schema room k i) (q bare i before) (r bare i before) (L bare i before) (After bare) (size schema base bare i + k)
+  pub part : (bare : Bool) (i : ℕ) (before : Text)
+      → Part room (step schema) bare (IsDataOf schema room k i) (q bare i before) (r bare i before) (L bare i before) (After bare) (size schema base bare i + k)
   pub opens : (i : ℕ) (before : Text) → Opens (L false i before)
 
-pub part_plain : {room step e : ℕ} {P : Data → Type 0} (bare : Bool) {q r : Reader Data} {L : Lang Data} → Part room step false P q r L FollowsValue e → Part room step bare P (plain bare q) (plain bare r) (Plain bare L) (After bare) e
+pub part_plain : {room step e : ℕ} {P : Data → Type 0} (bare : Bool) {q r : Reader Data} {L : Lang Data} → Part room step false P q r L FollowsValue e
+    → Part room step bare P (plain bare q) (plain bare r) (Plain bare L) (After bare) e
 part_plain false h = h
 part_plain true h = part_with_comma h
 
 -- what needs no name
-pub part_without : {room step e : ℕ} {commas : Bool} {A : Type 0} {P : A → Type 0} {F : Text → Type 0} (required : Bool) {q r : Reader A} {L : Lang A} → Part room step commas P q r L F e → Part room step commas P (without_name required q) (without_name required r) (WithoutName required L) F e
+pub part_without : {room step e : ℕ} {commas : Bool} {A : Type 0} {P : A → Type 0} {F : Text → Type 0} (required : Bool) {q r : Reader A} {L : Lang A}
+    → Part room step commas P q r L F e → Part room step commas P (without_name required q) (without_name required r) (WithoutName required L) F e
 part_without false h = h
 part_without true h = part_fail
 
@@ -42,12 +45,14 @@ first_without false h = h
 first_without true h = record { holds = λ t next a z. absurd z }
 
 -- directly behind a word
-pub part_no_gap : {room step e : ℕ} {commas : Bool} {A : Type 0} {P : A → Type 0} {F : Text → Type 0} (gap : Text) {q r : Reader A} {L : Lang A} → Part room step commas P q r L F e → Part room step commas P (no_gap gap q) (no_gap gap r) (NoGap gap L) F e
+pub part_no_gap : {room step e : ℕ} {commas : Bool} {A : Type 0} {P : A → Type 0} {F : Text → Type 0} (gap : Text) {q r : Reader A} {L : Lang A}
+    → Part room step commas P q r L F e → Part room step commas P (no_gap gap q) (no_gap gap r) (NoGap gap L) F e
 part_no_gap [] h = h
 part_no_gap (c ∷ gap) h = part_fail
 
 -- what an extension allows
-pub part_allowed : {room step e : ℕ} {commas : Bool} {A : Type 0} {P : A → Type 0} {F : Text → Type 0} (b : Bool) {q r : Reader A} {L : Lang A} → Part room step commas P q r L F e → Part room step commas P (allowed b q) (allowed b r) (Allowed b L) F e
+pub part_allowed : {room step e : ℕ} {commas : Bool} {A : Type 0} {P : A → Type 0} {F : Text → Type 0} (b : Bool) {q r : Reader A} {L : Lang A}
+    → Part room step commas P q r L F e → Part room step commas P (allowed b q) (allowed b r) (Allowed b L) F e
 part_allowed false h = part_fail
 part_allowed true h = h
 
@@ -56,6 +61,8 @@ first_allowed false h = record { holds = λ t next a z. absurd z }
 first_allowed true h = h
 
 -- no more is needed, or more than there is room
-pub part_either : {room step d e : ℕ} {commas : Bool} {A : Type 0} {P : A → Type 0} {q r : Reader A} {L : Lang A} {F : Text → Type 0} → Part room step commas P q r L F d → (d ≤ e) ⊎ (room < e) → Part room step commas P q r L F e
+pub part_either : {room step d e : ℕ} {commas : Bool} {A : Type 0} {P : A → Type 0} {q r : Reader A} {L : Lang A} {F : Text → Type 0}
+    → Part room step commas P q r L F d → (d ≤ e) ⊎ (room < e) → Part room step commas P q r L F e
 part_either h (inl le) = part_more h le
-part_either h (inr lt) = record { exact = h.exact; begins = h.begins; agrees = h.agrees; shallow = λ n w. absurd (omega (arith, w, lt)); values = h.values; passes = h.passes }
+part_either h (inr lt) =
+    record { exact = h.exact; begins = h.begins; agrees = h.agrees; shallow = λ n w. absurd (omega (arith, w, lt)); values = h.values; passes = h.passes }

@@ -39,7 +39,8 @@ target_some list seen name t e = go list.skips_unknown (list_any (is_called name
     new None k q = absurd (cc)
     new (Some f) k q = let same : known f ≡ t = cc in rw (← same) (new_field_some list.fields seen name f k)
 
-    go : (a b : Bool) → list_any (is_called name) list.fields ≡ b → cond (a && not b) (Some (unknown name)) (option_map known (new_field list.fields seen name)) ≡ Some t → StandsFor list seen name t
+    go : (a b : Bool) → list_any (is_called name) list.fields ≡ b
+        → cond (a && not b) (Some (unknown name)) (option_map known (new_field list.fields seen name)) ≡ Some t → StandsFor list seen name t
     go true false h q = let same : unknown name ≡ t = cc in rw (← same) (refl, h)
     go true true h q = new (new_field list.fields seen name) refl q
     go false b h q = new (new_field list.fields seen name) refl q
@@ -48,7 +49,8 @@ pub none_found : {A : Type 0} (test : A → Bool) (seen : List A) → list_any t
 none_found test [] e = refl
 none_found {A} test (item ∷ seen) e = go (test item) refl e (none_found test seen)
   where
-    go : (b : Bool) → test item ≡ b → (b || list_any test seen) ≡ false → (list_any test seen ≡ false → find test seen ≡ None) → cond b (Some item) (find test seen) ≡ None
+    go : (b : Bool) → test item ≡ b → (b || list_any test seen) ≡ false → (list_any test seen ≡ false → find test seen ≡ None)
+        → cond b (Some item) (find test seen) ≡ None
     go true h k ih = absurd (cc)
     go false h k ih = ih k
 

@@ -3,8 +3,10 @@ use Rattle.std.proofs.Common.{◌≡◌, ℕ, Bool, true, false, List, [], ◌�
 use Rattle.ron_spec_words.specs.Characters.{Text}
 use Rattle.ron_spec_words.specs.Reader.{deep, bad, got}
 use Rattle.ron_value_number.specs.declared.width.Width.TheVariants.{U8, I32}
-use Rattle.ron_spec_grammar.specs.Data.{Data, Datas, bool_of, int_of, the_unit, unit_struct_of, list_of, tuple_of, tuple_struct_of, map_of, no_datas, data_and, Pairs, no_pairs, pair_and, struct_of, no_fields, field_and}
-use Rattle.ron_spec_grammar.specs.Schema.{Shape, bool, int, unit, unit_struct, seq, tuple, tuple_struct, map, struct, only, field, FieldList, in_order, is_well_formed, OfShape}
+use Rattle.ron_spec_grammar.specs.Data.{Data, Datas, bool_of, int_of, the_unit, unit_struct_of, list_of, tuple_of, tuple_struct_of, map_of, no_datas, data_and}
+use Rattle.ron_spec_grammar.specs.Data.{Pairs, no_pairs, pair_and, struct_of, no_fields, field_and}
+use Rattle.ron_spec_grammar.specs.Schema.{Shape, bool, int, unit, unit_struct, seq, tuple, tuple_struct, map, struct, only, field, FieldList, in_order}
+use Rattle.ron_spec_grammar.specs.Schema.{is_well_formed, OfShape}
 use Rattle.ron_spec_grammar.specs.Rule.{Extensions}
 use Rattle.ron_spec_grammar.specs.Reading.{read}
 use Rattle.ron_spec_grammar.specs.Document.{Answer, ok, err, answer}
@@ -217,7 +219,8 @@ struct_without_its_name = refl
 
 -- S(a: u8, b: u8 that may be missing)
 abbrev missing_b : Text → Answer
-missing_b text = answer none (struct (codes "S") (only (field (codes "a") 1 ∷ record (field (codes "b") 1) { may_be_missing = true } ∷ [])) ∷ int U8 ∷ []) 0 2 text
+missing_b text =
+    answer none (struct (codes "S") (only (field (codes "a") 1 ∷ record (field (codes "b") 1) { may_be_missing = true } ∷ [])) ∷ int U8 ∷ []) 0 2 text
 
 b_is_missing : missing_b (codes "(a:1)") ≡ ok (struct_of (codes "S") (field_and (codes "a") (small 1) no_fields))
 unfolding reading
@@ -287,9 +290,14 @@ alias_of_the_same_name = refl
 alias_twice : is_well_formed (with_aliases (codes "left" ∷ codes "left" ∷ [])) 0 ≡ false
 alias_twice = refl
 
-alias_of_two_fields : is_well_formed (struct (codes "P") (only (record (field (codes "x") 1) { aliases = codes "a" ∷ [] } ∷ record (field (codes "y") 1) { aliases = codes "a" ∷ [] } ∷ [])) ∷ int I32 ∷ []) 0 ≡ false
+alias_of_two_fields : is_well_formed (struct (codes "P") (only
+    (record (field (codes "x") 1) { aliases = codes "a" ∷ [] } ∷ record (field (codes "y") 1) { aliases = codes "a" ∷ [] } ∷ [])) ∷ int I32 ∷ []) 0 ≡ false
 alias_of_two_fields = refl
 
 -- data has the fields' names, and no aliases
-not_of_the_shape : OfShape (with_aliases (codes "left" ∷ [])) 0 (struct_of (codes "P") (field_and (codes "left") (int_of I32 (pos 1)) (field_and (codes "y") (int_of I32 (pos 2)) no_fields))) → ⊥
-not_of_the_shape h = let list = only (record (field (codes "x") 1) { aliases = codes "left" ∷ [] } ∷ field (codes "y") 1 ∷ []) in let same : list ≡ h.0 = cc in let x : false ≡ true = ap (λ (l : FieldList). in_order l.fields (codes "left" ∷ codes "y" ∷ [])) same ∙ h.2 in cc
+not_of_the_shape : OfShape (with_aliases (codes "left" ∷ [])) 0
+    (struct_of (codes "P") (field_and (codes "left") (int_of I32 (pos 1)) (field_and (codes "y") (int_of I32 (pos 2)) no_fields))) → ⊥
+not_of_the_shape h = let list = only (record (field (codes "x") 1) { aliases = codes "left" ∷ [] } ∷ field (codes "y") 1 ∷ []) in
+    let same : list ≡ h.0 = cc in
+    let x : false ≡ true = ap (λ (l : FieldList). in_order l.fields (codes "left" ∷ codes "y" ∷ [])) same ∙ h.2 in
+    cc

@@ -52,7 +52,8 @@ unknown_refused = record { is = refl }
 
 -- S(a: u8), which a text may call b too
 abbrev aliased : Text → Answer
-aliased text = answer none (struct (codes "S") (record { fields = record (field (codes "a") 1) { aliases = codes "b" ∷ [] } ∷ []; skips_unknown = true }) ∷ int U8 ∷ []) 0 2 text
+aliased text = answer none
+    (struct (codes "S") (record { fields = record (field (codes "a") 1) { aliases = codes "b" ∷ [] } ∷ []; skips_unknown = true }) ∷ int U8 ∷ []) 0 2 text
 
 alias_is_known : aliased (codes "(c: 1, b: 3)") ≡ a_is_three
 unfolding reading
@@ -63,7 +64,8 @@ unfolding reading
 alias_and_name = refl
 
 -- as a value alone: a map in key order
-value_alone : ReadsValue 2 (codes " {2: 'b', 1: Foo} ") (ok (value_of (tree.mapping (pairs_from ((tree.number U8 (pos 1), tree.unit) ∷ (tree.number U8 (pos 2), tree.character 98) ∷ [])))))
+value_alone : ReadsValue 2 (codes " {2: 'b', 1: Foo} ")
+    (ok (value_of (tree.mapping (pairs_from ((tree.number U8 (pos 1), tree.unit) ∷ (tree.number U8 (pos 2), tree.character 98) ∷ [])))))
 unfolding reading
 value_alone = record { is = refl }
 

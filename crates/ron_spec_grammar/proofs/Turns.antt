@@ -76,11 +76,13 @@ module _ (x : Extensions) (schema : List Shape) (room : ℕ) where
         item_without_colon h = rw (e, k) (behind_no_mark 58 done rest _ h)
 
         module _ (u : Text) (h : skip rest ≡ 58 ∷ u) where
-          pub item_value : (f : Field) → t ≡ known f → is_at 47 (skip u) ≡ false → read_item x schema room list seen s ≡ meant (read_field_value x schema room f.shape (gap_of u) (skip u)) (item_of f)
+          pub item_value : (f : Field) → t ≡ known f → is_at 47 (skip u) ≡ false
+              → read_item x schema room list seen s ≡ meant (read_field_value x schema room f.shape (gap_of u) (skip u)) (item_of f)
           unfolding read_item read_field_value
           item_value f is n = rw (e, k, is, h, n) refl
 
-          pub item_skipped : (name : Text) → t ≡ unknown name → is_at 47 (skip u) ≡ false → read_item x schema room list seen s ≡ meant (read_any_below x.unwrap_variant_newtypes room 1 (gap_of u) (skip u)) (skipped name)
+          pub item_skipped : (name : Text) → t ≡ unknown name → is_at 47 (skip u) ≡ false
+              → read_item x schema room list seen s ≡ meant (read_any_below x.unwrap_variant_newtypes room 1 (gap_of u) (skip u)) (skipped name)
           unfolding read_item
           item_skipped name is n = rw (e, k, is, h, n) refl
 
@@ -95,7 +97,11 @@ module _ (x : Extensions) (schema : List Shape) (room : ℕ) where
     reader behind _ = field_item list (below (rule x schema) too_deep room 1 false) (read_any_below x.unwrap_variant_newtypes room 1) behind
 
     fields_shrink : Shrinks reader
-    fields_shrink = record { at_most = λ seen' gap t item rest e. shrinks _ _ (part_field schema room 1 _ _ _ (below_fit x schema (no_ranks schema room) room room 1 (omega arith) (omega arith) false) (size schema (λ i. room) true 0) (λ j. size_within schema (no_ranks schema room) 0 j) x.unwrap_variant_newtypes room (omega arith) list seen').exact.sound t item rest e }
+    fields_shrink = record {
+      at_most = λ seen' gap t item rest e. shrinks _ _ (part_field schema room 1 _ _ _
+          (below_fit x schema (no_ranks schema room) room room 1 (omega arith) (omega arith) false) (size schema (λ i. room) true 0)
+          (λ j. size_within schema (no_ranks schema room) 0 j) x.unwrap_variant_newtypes room (omega arith) list seen').exact.sound t item rest e;
+    }
 
     pub fields_over : (u : Text) → s ≡ 41 ∷ u → read_fields x schema room make list seen before s ≡ given (with_fields make list (all_items seen [])) u
     unfolding read_fields
@@ -107,7 +113,8 @@ module _ (x : Extensions) (schema : List Shape) (room : ℕ) where
       fields_failed = group_failed reader 41 (with_fields make list) (refl, refl, refl) fields_shrink seen before s open_still
 
       module _ (item : Item) (rest : Text) (e : read_item x schema room list seen s ≡ got item rest) where
-        pub fields_last : (u : Text) → skip rest ≡ 41 ∷ u → read_fields x schema room make list seen before s ≡ given (with_fields make list (all_items (item ∷ seen) [])) u
+        pub fields_last : (u : Text) → skip rest ≡ 41 ∷ u
+            → read_fields x schema room make list seen before s ≡ given (with_fields make list (all_items (item ∷ seen) [])) u
         unfolding read_item read_fields
         fields_last = group_last reader 41 (with_fields make list) (refl, refl, refl) fields_shrink seen before s open_still item rest e
 
@@ -115,6 +122,7 @@ module _ (x : Extensions) (schema : List Shape) (room : ℕ) where
         unfolding read_item read_fields
         fields_not_closed = group_not_closed reader 41 (with_fields make list) (refl, refl, refl) fields_shrink seen before s open_still item rest e
 
-        pub fields_more : (u : Text) → skip rest ≡ 44 ∷ u → read_fields x schema room make list seen before s ≡ after_gap (read_fields x schema room make list (item ∷ seen)) u
+        pub fields_more : (u : Text) → skip rest ≡ 44 ∷ u
+            → read_fields x schema room make list seen before s ≡ after_gap (read_fields x schema room make list (item ∷ seen)) u
         unfolding read_item read_fields
         fields_more = group_more reader 41 (with_fields make list) (refl, refl, refl) fields_shrink seen before s open_still item rest e

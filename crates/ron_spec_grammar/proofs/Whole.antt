@@ -39,7 +39,8 @@ whole_deep (failed f) h = cc
 
 -- a slash behind a gap is not too deep
 after_deep : {A : Type 0} (q : Text → Reader A) (s : Text) → after_gap q s ≡ failed deep → q (gap_of s) (skip s) ≡ failed deep
-after_deep q s = elim (is_at 47 (skip s)) as (λ b. (if b then failed bad else q (gap_of s) (skip s)) ≡ failed deep → q (gap_of s) (skip s) ≡ failed deep) [ true ↦ λ e. absurd (cc) | false ↦ λ e. e ]
+after_deep q s = elim (is_at 47 (skip s))
+    as (λ b. (if b then failed bad else q (gap_of s) (skip s)) ≡ failed deep → q (gap_of s) (skip s) ≡ failed deep) [ true ↦ λ e. absurd (cc) | false ↦ λ e. e ]
 
 module _ (at_start : Bool) (x : Extensions) (schema : List Shape) (root : ℕ) where
   -- the end of the text stops the value
@@ -47,15 +48,19 @@ module _ (at_start : Bool) (x : Extensions) (schema : List Shape) (root : ℕ) w
   stops_after limit text d z = rw (skip_to_end z.after z.is_after) refl
 
   -- the answer for a text of these parts
-  answer_of : (limit n : ℕ) (text : Text) (d : Data) (z : BodyAt at_start x schema root n text d) → answer_at at_start x schema root limit text ≡ whole (read_at at_start x schema limit false root z.before (z.value ++ z.after))
+  answer_of : (limit n : ℕ) (text : Text) (d : Data) (z : BodyAt at_start x schema root n text d)
+      → answer_at at_start x schema root limit text ≡ whole (read_at at_start x schema limit false root z.before (z.value ++ z.after))
   unfolding answer_at
-  answer_of limit n text d z = ap whole (ap (after_gap (read_at at_start x schema limit false root)) z.split ∙ after_gap_at (read_at at_start x schema limit false root) z.before (z.value ++ z.after) z.is_before (place.no_slash at_start x schema root n z.before z.value z.after d z.spelled))
+  answer_of limit n text d z =
+      ap whole (ap (after_gap (read_at at_start x schema limit false root)) z.split ∙ after_gap_at (read_at at_start x schema limit false root) z.before
+      (z.value ++ z.after) z.is_before (place.no_slash at_start x schema root n z.before z.value z.after d z.spelled))
 
   pub sound : (limit : ℕ) (text : Text) (d : Data) → answer_at at_start x schema root limit text ≡ ok d → BodyAt at_start x schema root limit text d
   unfolding answer_at
   sound limit text d e =
       let k = whole_ok (after_gap (read_at at_start x schema limit false root) text) d e in
-      let z = place.sound at_start x schema root limit (gap_of text) (skip text) k.0 d (after_got (read_at at_start x schema limit false root) text d k.0 k.1) in
+      let z =
+      place.sound at_start x schema root limit (gap_of text) (skip text) k.0 d (after_got (read_at at_start x schema limit false root) text d k.0 k.1) in
       let g = cut text in
       record {
         before = gap_of text;
@@ -67,7 +72,8 @@ module _ (at_start : Bool) (x : Extensions) (schema : List Shape) (root : ℕ) w
         is_after = gap_to_end k.0 k.2;
       }
 
-  pub any_gaps : (limit : ℕ) (before value after : Text) (d : Data) → Gap before (value ++ after) → SpellsAt at_start x schema limit false root before value after d → Gap after [] → BodyAt at_start x schema root limit (before ++ (value ++ after)) d
+  pub any_gaps : (limit : ℕ) (before value after : Text) (d : Data) → Gap before (value ++ after)
+      → SpellsAt at_start x schema limit false root before value after d → Gap after [] → BodyAt at_start x schema root limit (before ++ (value ++ after)) d
   any_gaps limit before value after d g z h = record {
     before = before;
     value = value;
@@ -79,7 +85,8 @@ module _ (at_start : Bool) (x : Extensions) (schema : List Shape) (root : ℕ) w
   }
 
   pub complete : (limit : ℕ) (text : Text) (d : Data) → BodyAt at_start x schema root limit text d → answer_at at_start x schema root limit text ≡ ok d
-  complete limit text d z = answer_of limit limit text d z ∙ ap whole (place.complete at_start x schema root limit z.before z.value z.after d z.spelled (stops_after limit text d z)) ∙ ap (at_end d) (skip_to_end z.after z.is_after)
+  complete limit text d z = answer_of limit limit text d z ∙ ap whole (place.complete at_start x schema root limit z.before z.value z.after d z.spelled
+      (stops_after limit text d z)) ∙ ap (at_end d) (skip_to_end z.after z.is_after)
 
   pub monotone : (m n : ℕ) (text : Text) (d : Data) → m ≤ n → BodyAt at_start x schema root m text d → BodyAt at_start x schema root n text d
   monotone m n text d le z = record {
@@ -93,15 +100,20 @@ module _ (at_start : Bool) (x : Extensions) (schema : List Shape) (root : ℕ) w
   }
 
   pub unique : (m n : ℕ) (text : Text) (d e : Data) → BodyAt at_start x schema root m text d → BodyAt at_start x schema root n text e → d ≡ e
-  unique m n text d e y z = ok_same d e (answer_at at_start x schema root (m + n) text) (complete (m + n) text d (monotone m (m + n) text d (omega arith) y)) (complete (m + n) text e (monotone n (m + n) text e (omega arith) z))
+  unique m n text d e y z = ok_same d e (answer_at at_start x schema root (m + n) text) (complete (m + n) text d (monotone m (m + n) text d (omega arith) y))
+      (complete (m + n) text e (monotone n (m + n) text e (omega arith) z))
 
-  pub too_deep : (limit n : ℕ) (text : Text) (d : Data) → BodyAt at_start x schema root n text d → (BodyAt at_start x schema root limit text d → ⊥) → answer_at at_start x schema root limit text ≡ err deep
-  too_deep limit n text d z other = answer_of limit n text d z ∙ ap whole (place.too_deep at_start x schema root limit n z.before z.value z.after d z.spelled (stops_after n text d z) refuse)
+  pub too_deep : (limit n : ℕ) (text : Text) (d : Data) → BodyAt at_start x schema root n text d → (BodyAt at_start x schema root limit text d → ⊥)
+      → answer_at at_start x schema root limit text ≡ err deep
+  too_deep limit n text d z other =
+      answer_of limit n text d z ∙ ap whole (place.too_deep at_start x schema root limit n z.before z.value z.after d z.spelled (stops_after n text d z) refuse)
     where
       refuse : SpellsAt at_start x schema limit false root z.before z.value z.after d → ⊥
-      refuse s = other (record { before = z.before; value = z.value; after = z.after; split = z.split; is_before = z.is_before; spelled = s; is_after = z.is_after })
+      refuse s =
+          other (record { before = z.before; value = z.value; after = z.after; split = z.split; is_before = z.is_before; spelled = s; is_after = z.is_after })
 
-  pub bounded : has_no_cycle schema ≡ true → (n : ℕ) (text : Text) (d : Data) → BodyAt at_start x schema root n text d → BodyAt at_start x schema root (enough schema false root (length text)) text d
+  pub bounded : has_no_cycle schema ≡ true → (n : ℕ) (text : Text) (d : Data) → BodyAt at_start x schema root n text d
+      → BodyAt at_start x schema root (enough schema false root (length text)) text d
   bounded h n text d z = monotone (enough schema false root (length (z.value ++ z.after))) (enough schema false root (length text)) text d
       (enough_rises schema false root _ _ (omega (arith, ap length z.split, length-append z.before (z.value ++ z.after))))
       (record {
@@ -115,8 +127,10 @@ module _ (at_start : Bool) (x : Extensions) (schema : List Shape) (root : ℕ) w
       })
 
   -- with so much room no body is too deep
-  pub roomy : has_no_cycle schema ≡ true → (room : ℕ) (text : Text) → enough schema false root (length text) ≤ room → answer_at at_start x schema root room text ≡ err deep → ⊥
+  pub roomy : has_no_cycle schema ≡ true → (room : ℕ) (text : Text) → enough schema false root (length text) ≤ room
+      → answer_at at_start x schema root room text ≡ err deep → ⊥
   unfolding answer_at
   roomy h room text le e =
-      place.roomy at_start x schema root h false room (gap_of text) (skip text) (let r = enough_rises schema false root (length (skip text)) (length text) (length-skip text) in omega (arith, le, r))
+      place.roomy at_start x schema root h false room (gap_of text) (skip text)
+      (let r = enough_rises schema false root (length (skip text)) (length text) (length-skip text) in omega (arith, le, r))
       (after_deep (read_at at_start x schema room false root) text (whole_deep _ e))

@@ -23,10 +23,14 @@ agrees any_raw = false
 agrees (struct name list) = has_whole_range (struct name list)
 agrees _ = true
 
--- A body that spells data under no extensions, by a schema of such shapes alone, and a value without a schema: what the value becomes, if it becomes anything, is that data. The text is one of Unicode scalar values.
+-- A body that spells data under no extensions, by a schema of such shapes alone, and a value without a schema: what the value becomes, if it becomes anything,
+-- is that data. The text is one of Unicode scalar values.
 abbrev pub AgreesWithConversion : Type 0
-AgreesWithConversion = (at_start : Bool) (schema : List Shape) (root m n : ℕ) (text : Text) (d e : Data) (t : Tree) → list_all agrees schema ≡ true → scalars text ≡ true → BodyAt at_start no_extensions schema root m text d → ValueBody false n text t → into schema root t ≡ Some e → e ≡ d
+AgreesWithConversion = (at_start : Bool) (schema : List Shape) (root m n : ℕ) (text : Text) (d e : Data) (t : Tree) → list_all agrees schema ≡ true
+    → scalars text ≡ true → BodyAt at_start no_extensions schema root m text d → ValueBody false n text t → into schema root t ≡ Some e → e ≡ d
 
 -- Likewise a document whose head leaves no extension in force.
 abbrev pub DocumentsAgree : Type 0
-DocumentsAgree = (x : Extensions) (schema : List Shape) (root m n : ℕ) (text : Text) (d e : Data) (t : Tree) → list_all agrees schema ≡ true → scalars text ≡ true → (a : Document x schema root m text d) → in_force x a.announced ≡ no_extensions → Document x (any_value ∷ []) 0 n text (value_of t) → into schema root t ≡ Some e → e ≡ d
+DocumentsAgree = (x : Extensions) (schema : List Shape) (root m n : ℕ) (text : Text) (d e : Data) (t : Tree) → list_all agrees schema ≡ true
+    → scalars text ≡ true → (a : Document x schema root m text d) → in_force x a.announced ≡ no_extensions → Document x (any_value ∷ []) 0 n text (value_of t)
+    → into schema root t ≡ Some e → e ≡ d

@@ -24,11 +24,13 @@ together (e ∷ es) = Some (in_force e es)
 
 -- `enable`, and the names of one or more extensions in parentheses
 abbrev pub Enable : Lang Extensions
-Enable = Then (FixedWord (codes "enable") done) (λ _ _. Group left_parenthesis right_parenthesis (λ gap. Means (Items (λ _ _. Means Name extension_of_name) gap) together))
+Enable = Then (FixedWord (codes "enable") done)
+    (λ _ _. Group left_parenthesis right_parenthesis (λ gap. Means (Items (λ _ _. Means Name extension_of_name) gap) together))
 
 -- `type` or `schema`, `=` and a string, which announces nothing
 abbrev pub Ignored : Lang Extensions
-Ignored = Then (Or (FixedWord (codes "type") done) (FixedWord (codes "schema") done)) (λ _ _. Then (Mark equals_sign done) (λ _ _. Means String (λ _. Some no_extensions)))
+Ignored = Then (Or (FixedWord (codes "type") done) (FixedWord (codes "schema") done))
+    (λ _ _. Then (Mark equals_sign done) (λ _ _. Means String (λ _. Some no_extensions)))
 
 -- `#`, `!`, and either in brackets
 abbrev pub Attribute : Lang Extensions

@@ -9,7 +9,8 @@ use Rattle.ron_spec_words.specs.Characters.{Text}
 use Rattle.ron_value_number.specs.declared.width.Width.{Width}
 use Rattle.ron_value.specs.Tree.{Tree}
 
--- Data of every shape. Structs and enums have their names, a variant its own too, and a struct's fields stand in the schema's order. What needs no schema is a value.
+-- Data of every shape. Structs and enums have their names, a variant its own too, and a struct's fields stand in the schema's order. What needs no schema is a
+-- value.
 mutual
   pub data Data : Type 0 where
     bool_of : Bool → Data

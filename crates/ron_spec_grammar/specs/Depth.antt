@@ -2,7 +2,9 @@
 use Rattle.std.specs.Prelude.{ℕ, ◌+◌, max}
 use Rattle.ron_value.specs.Tree.{Tree}
 use Rattle.ron_value.specs.Tree as tree
-use Rattle.ron_spec_grammar.specs.Data.{Data, bool_of, int_of, char_of, str_of, bytes_of, the_unit, the_none, some_of, unit_struct_of, list_of, tuple_of, tuple_struct_of, map_of, newtype_of, struct_of, unit_variant_of, newtype_variant_of, tuple_variant_of, struct_variant_of, value_of, raw_of, Datas, no_datas, data_and, Pairs, no_pairs, pair_and, Fields, no_fields, field_and}
+use Rattle.ron_spec_grammar.specs.Data.{Data, bool_of, int_of, char_of, str_of, bytes_of, the_unit, the_none, some_of, unit_struct_of, list_of, tuple_of}
+use Rattle.ron_spec_grammar.specs.Data.{tuple_struct_of, map_of, newtype_of, struct_of, unit_variant_of, newtype_variant_of, tuple_variant_of}
+use Rattle.ron_spec_grammar.specs.Data.{struct_variant_of, value_of, raw_of, Datas, no_datas, data_and, Pairs, no_pairs, pair_and, Fields, no_fields, field_and}
 
 -- One level for a Some in a value, and for entering a list or a map in it, and there one for each item, key and value.
 abbrev mutual
@@ -22,7 +24,9 @@ abbrev mutual
   tree_pairs_depth tree.no_pairs = 0
   tree_pairs_depth (tree.pair_and key t ps) = max (max (1 + tree_depth key) (1 + tree_depth t)) (tree_pairs_depth ps)
 
--- One level for a Some, for a newtype's content and for entering a list, a tuple, a map or a struct, and in it one for each item, for each key and value, and for each field's name and value. For an enum one, and in it one for a variant's name or content, or for entering its group. (Bytes take none as a byte string, and two as a list. A raw text counts none here, whatever its value needs.)
+-- One level for a Some, for a newtype's content and for entering a list, a tuple, a map or a struct, and in it one for each item, for each key and value, and
+-- for each field's name and value. For an enum one, and in it one for a variant's name or content, or for entering its group. (Bytes take none as a byte
+-- string, and two as a list. A raw text counts none here, whatever its value needs.)
 abbrev mutual
   pub least_depth : Data → ℕ
   least_depth (bool_of b) = 0

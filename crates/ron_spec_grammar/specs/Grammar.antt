@@ -3,7 +3,8 @@ use Rattle.std.specs.Prelude.{ℕ, Bool, false, List, Option, Some, None, slice_
 use Rattle.ron_spec_words.specs.Characters.{Text}
 use Rattle.ron_spec_words.specs.Lang.{Lang, Nothing}
 use Rattle.ron_spec_grammar.specs.Data.{Data}
-use Rattle.ron_spec_grammar.specs.Schema.{Shape, bool, int, char, str, bytes, unit, optional, unit_struct, seq, tuple, tuple_struct, map, newtype, struct, enum, any_value, any_raw}
+use Rattle.ron_spec_grammar.specs.Schema.{Shape, bool, int, char, str, bytes, unit, optional, unit_struct, seq, tuple, tuple_struct, map, newtype, struct, enum}
+use Rattle.ron_spec_grammar.specs.Schema.{any_value, any_raw}
 use Rattle.ron_spec_grammar.specs.Rule.{Extensions, Langs, inside, below}
 use Rattle.ron_spec_grammar.specs.Shapes.Bool.{BoolText}
 use Rattle.ron_spec_grammar.specs.Shapes.Int.{IntText}
@@ -22,7 +23,8 @@ use Rattle.ron_spec_grammar.specs.Shapes.Struct.{StructText}
 use Rattle.ron_spec_grammar.specs.Shapes.Value.{ValueText}
 use Rattle.ron_spec_grammar.specs.Shapes.Raw.{RawText}
 
--- the text of a shape, where there is room for so many levels; `sub k` may stand k + 1 levels deeper. With `true` first nothing but the gap stands before it in the whole text, and `sub k true` says so of what stands deeper
+-- the text of a shape, where there is room for so many levels; `sub k` may stand k + 1 levels deeper. With `true` first nothing but the gap stands before it in
+-- the whole text, and `sub k true` says so of what stands deeper
 abbrev pub ShapeText : Extensions → List Shape → ℕ → (ℕ → Bool → Langs) → Bool → Bool → Text → Option Shape → Lang Data
 ShapeText x schema room sub at_start bare before None = Nothing
 ShapeText x schema room sub at_start bare before (Some bool) = BoolText bare
@@ -37,7 +39,8 @@ ShapeText x schema room sub at_start bare before (Some (seq j)) = SeqText j room
 ShapeText x schema room sub at_start bare before (Some (tuple js)) = TupleText js room (inside sub) bare before
 ShapeText x schema room sub at_start bare before (Some (tuple_struct name js)) = TupleStructText x.explicit_struct_names name js room (inside sub) bare before
 ShapeText x schema room sub at_start bare before (Some (map k v)) = MapText k v room (inside sub) bare
-ShapeText x schema room sub at_start bare before (Some (newtype name j)) = NewtypeText x.explicit_struct_names x.unwrap_newtypes name j (inside sub) (sub 0 at_start) bare before
+ShapeText x schema room sub at_start bare before (Some (newtype name j)) =
+    NewtypeText x.explicit_struct_names x.unwrap_newtypes name j (inside sub) (sub 0 at_start) bare before
 ShapeText x schema room sub at_start bare before (Some (struct name list)) = StructText x schema name list room (inside sub) bare before
 ShapeText x schema room sub at_start bare before (Some (enum name variants)) = EnumText x name variants room (inside sub) bare
 ShapeText x schema room sub at_start bare before (Some any_value) = ValueText x room bare before

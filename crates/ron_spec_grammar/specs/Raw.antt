@@ -62,7 +62,8 @@ is_all (failed f) = false
 unfoldable pub is_name_alone : Text → Bool
 is_name_alone core = is_all (untyped_name core)
 
--- The raw text of a value's stretch and the gaps around it. Where nothing but the gap stands before the value in the whole text, it is all of these. Else the gap before is without its white space at the start, and the gap behind without that at its end; but behind a name alone it is whole.
+-- The raw text of a value's stretch and the gaps around it. Where nothing but the gap stands before the value in the whole text, it is all of these. Else the
+-- gap before is without its white space at the start, and the gap behind without that at its end; but behind a name alone it is whole.
 unfoldable pub raw_text : Text → Text → Text → Bool → Text
 raw_text before core after at_start =
     if at_start then before ++ (core ++ after) else

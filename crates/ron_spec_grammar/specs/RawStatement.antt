@@ -19,21 +19,26 @@ HasRawValue = (text : Text) (t : Tree) → (raw_value text ≡ Some t) ↔ RawBo
 abbrev pub IsValidExactly : Type 0
 IsValidExactly = (text : Text) → (raw_valid text ≡ true) ↔ ((t : Tree) × RawBody text t)
 
--- A value that is spelled under no extensions, before one text that may follow a value, is spelled before any other, behind any gap, and where a Some holds bare content too.
+-- A value that is spelled under no extensions, before one text that may follow a value, is spelled before any other, behind any gap, and where a Some holds
+-- bare content too.
 abbrev pub ValuesMove : Type 0
-ValuesMove = (unwrap : Bool) (room : ℕ) (before behind s next other : Text) (t : Tree) → AnySpells false room false before s next t → FollowsValue next → FollowsValue other → AnySpells unwrap room false behind s other t
+ValuesMove = (unwrap : Bool) (room : ℕ) (before behind s next other : Text) (t : Tree) → AnySpells false room false before s next t → FollowsValue next
+    → FollowsValue other → AnySpells unwrap room false behind s other t
 
 -- So it is a raw text by itself, and with gaps around it, the last of which leaves no line comment open.
 abbrev pub ValuesStandAlone : Type 0
-ValuesStandAlone = (before g core h next : Text) (t : Tree) → AnySpells false raw_limit false before core next t → FollowsValue next → Gap g (comma ∷ []) → Gap h (comma ∷ []) → raw_value (g ++ (core ++ h)) ≡ Some t
+ValuesStandAlone = (before g core h next : Text) (t : Tree) → AnySpells false raw_limit false before core next t → FollowsValue next → Gap g (comma ∷ [])
+    → Gap h (comma ∷ []) → raw_value (g ++ (core ++ h)) ≡ Some t
 
 -- What is taken of the gaps around it leaves its value.
 abbrev pub IsTakenWithItsValue : Type 0
-IsTakenWithItsValue = (at_start : Bool) (place before core after next : Text) (t : Tree) → AnySpells false raw_limit false place core next t → FollowsValue next → Gap before (comma ∷ []) → Gap after (comma ∷ []) → raw_value (raw_text before core after at_start) ≡ Some t
+IsTakenWithItsValue = (at_start : Bool) (place before core after next : Text) (t : Tree) → AnySpells false raw_limit false place core next t → FollowsValue next
+    → Gap before (comma ∷ []) → Gap after (comma ∷ []) → raw_value (raw_text before core after at_start) ≡ Some t
 
 -- By a well-formed schema, a raw text that is spelled is valid.
 abbrev pub SpellsValidTexts : Type 0
-SpellsValidTexts = (at_start : Bool) (x : Extensions) (schema : List Shape) (root i room : ℕ) (before s next text : Text) → is_well_formed schema root ≡ true → SpellsAt at_start x schema room false i before s next (raw_of text) → raw_valid text ≡ true
+SpellsValidTexts = (at_start : Bool) (x : Extensions) (schema : List Shape) (root i room : ℕ) (before s next text : Text) → is_well_formed schema root ≡ true
+    → SpellsAt at_start x schema room false i before s next (raw_of text) → raw_valid text ≡ true
 
 -- Trimmed, it has the value that it had.
 abbrev pub TrimmedKeepsValue : Type 0

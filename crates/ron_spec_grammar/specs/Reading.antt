@@ -3,7 +3,8 @@ use Rattle.std.specs.Prelude.{ℕ, Bool, false, List, Option, Some, None, slice_
 use Rattle.ron_spec_words.specs.Characters.{Text}
 use Rattle.ron_spec_words.specs.Reader.{Reader, fail, deep, bad}
 use Rattle.ron_spec_grammar.specs.Data.{Data}
-use Rattle.ron_spec_grammar.specs.Schema.{Shape, bool, int, char, str, bytes, unit, optional, unit_struct, seq, tuple, tuple_struct, map, newtype, struct, enum, any_value, any_raw}
+use Rattle.ron_spec_grammar.specs.Schema.{Shape, bool, int, char, str, bytes, unit, optional, unit_struct, seq, tuple, tuple_struct, map, newtype, struct, enum}
+use Rattle.ron_spec_grammar.specs.Schema.{any_value, any_raw}
 use Rattle.ron_spec_grammar.specs.Rule.{Extensions, Readers, inside, below}
 use Rattle.ron_spec_grammar.specs.Shapes.Bool.{read_bool}
 use Rattle.ron_spec_grammar.specs.Shapes.Int.{read_int}
@@ -35,9 +36,11 @@ read_shape x schema room sub at_start bare before (Some (optional j)) = read_opt
 read_shape x schema room sub at_start bare before (Some (unit_struct name)) = read_unit_struct x.explicit_struct_names name bare
 read_shape x schema room sub at_start bare before (Some (seq j)) = read_seq j room (inside sub) bare
 read_shape x schema room sub at_start bare before (Some (tuple js)) = read_tuple js room (inside sub) bare before
-read_shape x schema room sub at_start bare before (Some (tuple_struct name js)) = read_tuple_struct x.explicit_struct_names name js room (inside sub) bare before
+read_shape x schema room sub at_start bare before (Some (tuple_struct name js)) =
+    read_tuple_struct x.explicit_struct_names name js room (inside sub) bare before
 read_shape x schema room sub at_start bare before (Some (map k v)) = read_map k v room (inside sub) bare
-read_shape x schema room sub at_start bare before (Some (newtype name j)) = read_newtype x.explicit_struct_names x.unwrap_newtypes name j (inside sub) (sub 0 at_start) bare before
+read_shape x schema room sub at_start bare before (Some (newtype name j)) =
+    read_newtype x.explicit_struct_names x.unwrap_newtypes name j (inside sub) (sub 0 at_start) bare before
 read_shape x schema room sub at_start bare before (Some (struct name list)) = read_struct x schema name list room (inside sub) bare before
 read_shape x schema room sub at_start bare before (Some (enum name variants)) = read_enum x name variants room (inside sub) bare
 read_shape x schema room sub at_start bare before (Some any_value) = read_any_value x room bare before

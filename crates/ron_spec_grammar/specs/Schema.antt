@@ -1,10 +1,13 @@
 -- Schemas: a table of shapes and the index of its root; which are well formed, and which data is of a shape.
-use Rattle.std.specs.Prelude.{◌≡◌, ℕ, zero, suc, Bool, true, false, not, ◌&&◌, ◌||◌, codes, if◌then◌else◌, nat_lt, List, [], ◌∷◌, ◌++◌, length, Option, Some, None, option_map, find, slice_get}
+use Rattle.std.specs.Prelude.{◌≡◌, ℕ, zero, suc, Bool, true, false, not, ◌&&◌, ◌||◌, codes, if◌then◌else◌, nat_lt, List, [], ◌∷◌, ◌++◌, length, Option, Some}
+use Rattle.std.specs.Prelude.{None, option_map, find, slice_get}
 use Rattle.std.specs.List.{list_any, list_all}
 use Rattle.std.specs.Option.{option_and_then}
 use Rattle.ron_spec_words.specs.Characters.{Text}
 use Rattle.ron_spec_words.specs.Runs.{same_text}
-use Rattle.ron_spec_grammar.specs.Data.{Data, bool_of, int_of, char_of, str_of, bytes_of, the_unit, the_none, some_of, unit_struct_of, list_of, tuple_of, tuple_struct_of, map_of, newtype_of, struct_of, unit_variant_of, newtype_variant_of, tuple_variant_of, struct_variant_of, value_of, raw_of, Datas, no_datas, data_and, Pairs, no_pairs, pair_and, Fields, no_fields, field_and}
+use Rattle.ron_spec_grammar.specs.Data.{Data, bool_of, int_of, char_of, str_of, bytes_of, the_unit, the_none, some_of, unit_struct_of, list_of, tuple_of}
+use Rattle.ron_spec_grammar.specs.Data.{tuple_struct_of, map_of, newtype_of, struct_of, unit_variant_of, newtype_variant_of, tuple_variant_of}
+use Rattle.ron_spec_grammar.specs.Data.{struct_variant_of, value_of, raw_of, Datas, no_datas, data_and, Pairs, no_pairs, pair_and, Fields, no_fields, field_and}
 use Rattle.ron_value_number.specs.declared.width.Width.{Width}
 use Rattle.ron_value_number.specs.Width.{fits}
 use Rattle.ron_spec_grammar.specs.Values.Trees.{IsValue}
@@ -170,7 +173,8 @@ ends_within schema (suc n) (Some j) = ends_within schema n (content_at schema j)
 abbrev pub has_no_cycle : List Shape → Bool
 has_no_cycle schema = list_all (λ s. ends_within schema (length schema) (content_of s)) schema
 
--- A schema is well formed where its indices lie in its table, options and newtypes alone form no cycle, no name or alias stands twice in a list of fields or variants, and no field of a range struct may be missing.
+-- A schema is well formed where its indices lie in its table, options and newtypes alone form no cycle, no name or alias stands twice in a list of fields or
+-- variants, and no field of a range struct may be missing.
 abbrev pub is_well_formed : List Shape → ℕ → Bool
 is_well_formed schema root = is_in_range schema root && (has_no_cycle schema && (list_all has_distinct_names schema && list_all has_whole_range schema))
 
@@ -192,7 +196,8 @@ in_order (f ∷ fields) (name ∷ names) = if is_named name f then in_order fiel
 abbrev pub HasVariant : List Shape → ℕ → Text → Text → VariantShape → Type 0
 HasVariant schema i name v content = (variants : List Variant) × (slice_get schema i ≡ Some (enum name variants)) × (variant_named v variants ≡ Some content)
 
--- Data is of the shape at an index: names, widths and lengths are the shape's, each part is of its shape, and a struct's fields stand in the shape's order, where only those that may be missing are.
+-- Data is of the shape at an index: names, widths and lengths are the shape's, each part is of its shape, and a struct's fields stand in the shape's order,
+-- where only those that may be missing are.
 abbrev mutual
   pub OfShape : List Shape → ℕ → Data → Type 0
   OfShape schema i (bool_of b) = slice_get schema i ≡ Some bool
@@ -209,11 +214,13 @@ abbrev mutual
   OfShape schema i (tuple_struct_of name ds) = (js : List ℕ) × (slice_get schema i ≡ Some (tuple_struct name js)) × EachOfShape schema js ds
   OfShape schema i (map_of ps) = (k : ℕ) × (v : ℕ) × (slice_get schema i ≡ Some (map k v)) × PairsOfShape schema k v ps
   OfShape schema i (newtype_of name d) = (j : ℕ) × (slice_get schema i ≡ Some (newtype name j)) × OfShape schema j d
-  OfShape schema i (struct_of name ds) = (list : FieldList) × (slice_get schema i ≡ Some (struct name list)) × (in_order list.fields (names_of ds) ≡ true) × OfFields schema list.fields ds
+  OfShape schema i (struct_of name ds) =
+      (list : FieldList) × (slice_get schema i ≡ Some (struct name list)) × (in_order list.fields (names_of ds) ≡ true) × OfFields schema list.fields ds
   OfShape schema i (unit_variant_of name v) = HasVariant schema i name v unit_variant
   OfShape schema i (newtype_variant_of name v d) = (j : ℕ) × HasVariant schema i name v (newtype_variant j) × OfShape schema j d
   OfShape schema i (tuple_variant_of name v ds) = (js : List ℕ) × HasVariant schema i name v (tuple_variant js) × EachOfShape schema js ds
-  OfShape schema i (struct_variant_of name v ds) = (list : FieldList) × HasVariant schema i name v (struct_variant list) × (in_order list.fields (names_of ds) ≡ true) × OfFields schema list.fields ds
+  OfShape schema i (struct_variant_of name v ds) =
+      (list : FieldList) × HasVariant schema i name v (struct_variant list) × (in_order list.fields (names_of ds) ≡ true) × OfFields schema list.fields ds
   OfShape schema i (value_of t) = (slice_get schema i ≡ Some any_value) × IsValue t
   OfShape schema i (raw_of t) = (slice_get schema i ≡ Some any_raw) × (raw_valid t ≡ true)
 

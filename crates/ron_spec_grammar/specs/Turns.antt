@@ -1,4 +1,5 @@
--- The reader functions of structs, of lists and tuples, of maps, and of lists of bytes from a place within them, and of what stands in a value, for code that reads part by part.
+-- The reader functions of structs, of lists and tuples, of maps, and of lists of bytes from a place within them, and of what stands in a value, for code that
+-- reads part by part.
 use Rattle.std.specs.Prelude.{ℕ, Bool, true, false, List, [], length, Option, Some, slice_get, option_map, None, find}
 use Rattle.ron_spec_words.specs.Characters.{Text, left_parenthesis, right_parenthesis, right_bracket, right_brace}
 use Rattle.ron_spec_words.specs.Reader.{Got, got, failed, mark, means, meant, after_gap, and_then, opt_comma, items, group, needs}
@@ -31,7 +32,8 @@ with_fields make list xs = option_map make (arranged list.fields xs)
 -- what reading the fields answers, where these items stand before the place; `make` says what the fields make
 unfoldable pub read_fields : Extensions → List Shape → ℕ → (Fields → Data) → FieldList → List Item → Text → Text → Got Data
 read_fields x schema room make list seen before s =
-    rest_of_group (λ seen _. field_item list (below (rule x schema) too_deep room 1 false) (read_any_below x.unwrap_variant_newtypes room 1) seen) right_parenthesis (with_fields make list) seen before s
+    rest_of_group (λ seen _. field_item list (below (rule x schema) too_deep room 1 false) (read_any_below x.unwrap_variant_newtypes room 1) seen)
+    right_parenthesis (with_fields make list) seen before s
 
 -- the fields behind the opening parenthesis, up to and past the closing one, with the level that they take
 unfoldable pub read_fields_inside : Extensions → List Shape → ℕ → (Fields → Data) → FieldList → Text → Text → Got Data
@@ -40,7 +42,8 @@ read_fields_inside x schema room make list before s = needs 1 room (read_fields 
 -- the fields between `(` and `)`
 unfoldable pub read_field_group : Extensions → List Shape → ℕ → (Fields → Data) → FieldList → Text → Got Data
 read_field_group x schema room make list s =
-    group left_parenthesis right_parenthesis (λ gap. needs 1 room (means (items (λ seen _. field_item list (below (rule x schema) too_deep room 1 false) (read_any_below x.unwrap_variant_newtypes room 1) seen) right_parenthesis gap) (with_fields make list))) s
+    group left_parenthesis right_parenthesis (λ gap. needs 1 room (means (items (λ seen _. field_item list (below (rule x schema) too_deep room 1 false)
+    (read_any_below x.unwrap_variant_newtypes room 1) seen) right_parenthesis gap) (with_fields make list))) s
 
 -- what reading a list of bytes answers, where these bytes stand before the place
 unfoldable pub read_bytes_from : ℕ → List ℕ → Text → Text → Got Data
@@ -68,7 +71,8 @@ read_element x schema room es seen before s = at_shape (below (rule x schema) to
 
 -- what reading a list or tuple answers, where these items stand before the place; f is what all of them make
 unfoldable pub read_elements : Extensions → List Shape → ℕ → Elements → ℕ → (List Data → Option Data) → List Data → Text → Text → Got Data
-read_elements x schema room es close f seen before s = rest_of_group (λ seen. at_shape (below (rule x schema) too_deep room 1 false) (shape_behind es seen)) close f seen before s
+read_elements x schema room es close f seen before s =
+    rest_of_group (λ seen. at_shape (below (rule x schema) too_deep room 1 false) (shape_behind es seen)) close f seen before s
 
 -- a tuple's items between `(` and `)`, and what they make
 unfoldable pub read_tuple_group : Extensions → List Shape → ℕ → (Datas → Data) → List ℕ → Text → Got Data
@@ -114,7 +118,8 @@ read_bare_below x schema room i before s = and_then (below (rule x schema) too_d
 
 -- a tuple's items, and what they make
 unfoldable pub read_bare_items : Extensions → List Shape → ℕ → (Datas → Data) → List ℕ → Text → Text → Got Data
-read_bare_items x schema room make js before s = and_then (needs 1 room (bare_items make js (below (rule x schema) too_deep room 1 false) before) s) (λ d _. mark right_parenthesis d)
+read_bare_items x schema room make js before s =
+    and_then (needs 1 room (bare_items make js (below (rule x schema) too_deep room 1 false) before) s) (λ d _. mark right_parenthesis d)
 
 -- ---- what a variant of an enum holds
 
@@ -130,6 +135,7 @@ variant_at variants s = variant_got variants (name s)
 -- what stands behind a variant's name, where so many levels are left in its enum: nothing, or a gap and what the variant holds
 unfoldable pub read_variant_content : Extensions → List Shape → ℕ → Text → Text → VariantShape → Text → Got Data
 read_variant_content x schema room enum_name v unit_variant s = got (unit_variant_of enum_name v) s
-read_variant_content x schema room enum_name v (newtype_variant j) s = after_gap (λ _ s. meant (read_content x schema room x.unwrap_variant_newtypes j s) (newtype_variant_data enum_name v)) s
+read_variant_content x schema room enum_name v (newtype_variant j) s =
+    after_gap (λ _ s. meant (read_content x schema room x.unwrap_variant_newtypes j s) (newtype_variant_data enum_name v)) s
 read_variant_content x schema room enum_name v (tuple_variant js) s = after_gap (λ _. read_tuple_group x schema room (tuple_variant_of enum_name v) js) s
 read_variant_content x schema room enum_name v (struct_variant list) s = after_gap (λ _. read_field_group x schema room (struct_variant_of enum_name v) list) s

@@ -1,5 +1,6 @@
 -- Announcements are a head that announces what a configuration adds to the defaults.
-use Rattle.std.proofs.Common.{◌≡◌, Bool, true, false, not, ◌&&◌, ◌||◌, cond, List, [], ◌∷◌, ◌++◌, codes, Some, ◌⊎◌, inl, inr, refl, sym, ap, ◌∙◌, subst, append_assoc, append-nil}
+use Rattle.std.proofs.Common.{◌≡◌, Bool, true, false, not, ◌&&◌, ◌||◌, cond, List, [], ◌∷◌, ◌++◌, codes, Some, ◌⊎◌, inl, inr, refl, sym, ap, ◌∙◌, subst}
+use Rattle.std.proofs.Common.{append_assoc, append-nil}
 use Rattle.unicode_ident.proofs.Computing.{unicode_ident}
 use Rattle.ron_spec_words.specs.Characters.{Text, continues_word}
 use Rattle.ron_spec_words.specs.Runs.{begins, is_ended}
@@ -20,8 +21,10 @@ use Rattle.ron_spec_layout.proofs.Closed.{Closed, before_any, AreGaps}
 -- ---- one attribute
 
 -- one directly behind the other
-direct : {A B : Type 0} {L : Lang A} {M : A → Text → Lang B} (s t next : Text) (a : A) {b : B} → L s (t ++ next) a → skip (t ++ next) ≡ t ++ next → M a [] t next b → Then L M (s ++ t) next b
-direct s t next a h n k = record { value = a; left = s; gap = []; right = t; split = refl; first = h; is_gap = record { is_gap = none; longest = n }; second = k }
+direct : {A B : Type 0} {L : Lang A} {M : A → Text → Lang B} (s t next : Text) (a : A) {b : B} → L s (t ++ next) a → skip (t ++ next) ≡ t ++ next
+    → M a [] t next b → Then L M (s ++ t) next b
+direct s t next a h n k =
+    record { value = a; left = s; gap = []; right = t; split = refl; first = h; is_gap = record { is_gap = none; longest = n }; second = k }
 
 -- the name of an extension that is written as it is
 record Announces (name : Text) (e : Extensions) : Type 0 where
@@ -31,7 +34,10 @@ record Announces (name : Text) (e : Extensions) : Type 0 where
 
 attribute_spelled : (name : Text) (e : Extensions) → Announces name e → (next : Text) → Attribute (attribute_of name) next e
 unfolding unicode_ident
-attribute_spelled name e h next = subst (λ t. Attribute t next e) same (direct (35 ∷ []) (33 ∷ (91 ∷ (enable ++ 93 ∷ []))) next done (refl, refl) (skip-other 33 _ refl refl) (direct (33 ∷ []) (91 ∷ (enable ++ 93 ∷ [])) next done (refl, refl) (skip-other 91 _ refl refl) (direct (91 ∷ []) (enable ++ 93 ∷ []) next done (refl, refl) (skip-other 101 _ refl refl) (direct enable (93 ∷ []) next e (inl enabled) (skip-other 93 next refl refl) (refl, refl)))))
+attribute_spelled name e h next =
+    subst (λ t. Attribute t next e) same (direct (35 ∷ []) (33 ∷ (91 ∷ (enable ++ 93 ∷ []))) next done (refl, refl) (skip-other 33 _ refl refl)
+    (direct (33 ∷ []) (91 ∷ (enable ++ 93 ∷ [])) next done (refl, refl) (skip-other 91 _ refl refl) (direct (91 ∷ []) (enable ++ 93 ∷ []) next done (refl, refl)
+    (skip-other 101 _ refl refl) (direct enable (93 ∷ []) next e (inl enabled) (skip-other 93 next refl refl) (refl, refl)))))
   where
     enable : Text
     enable = codes "enable" ++ (40 ∷ (name ++ 41 ∷ []))
@@ -46,14 +52,25 @@ attribute_spelled name e h next = subst (λ t. Attribute t next e) same (direct 
     close = 41 ∷ (93 ∷ next)
 
     one : Items (λ _ _. Means Name extension_of_name) [] name close (e ∷ [])
-    one = record { value = done; left = name; gap = []; right = []; split = sym (append-nil name); first = record { value = name; spelled = spelled close refl; meant = h.meant }; is_gap = record { is_gap = none; longest = skip-other 41 (93 ∷ next) refl refl }; second = inl (refl, refl) }
+    one = record {
+      value = done;
+      left = name;
+      gap = [];
+      right = [];
+      split = sym (append-nil name);
+      first = record { value = name; spelled = spelled close refl; meant = h.meant };
+      is_gap = record { is_gap = none; longest = skip-other 41 (93 ∷ next) refl refl };
+      second = inl (refl, refl);
+    }
 
     names : Group 40 41 (λ gap. Means (Items (λ _ _. Means Name extension_of_name) gap) together) (40 ∷ (name ++ 41 ∷ [])) (93 ∷ next) e
-    names = direct (40 ∷ []) (name ++ 41 ∷ []) (93 ∷ next) done (refl, refl) (rw (append_assoc name (41 ∷ []) (93 ∷ next)) (name_solid.holds name close name (spelled close refl)).1)
+    names = direct (40 ∷ []) (name ++ 41 ∷ []) (93 ∷ next) done (refl, refl)
+        (rw (append_assoc name (41 ∷ []) (93 ∷ next)) (name_solid.holds name close name (spelled close refl)).1)
         (direct name (41 ∷ []) (93 ∷ next) e (record { value = e ∷ []; spelled = one; meant = refl }) (skip-other 41 (93 ∷ next) refl refl) (refl, refl))
 
     enabled : Enable enable (93 ∷ next) e
-    enabled = direct (codes "enable") (40 ∷ (name ++ 41 ∷ [])) (93 ∷ next) done (record { same = refl; ends = refl; value = refl }) (skip-other 40 _ refl refl) names
+    enabled =
+        direct (codes "enable") (40 ∷ (name ++ 41 ∷ [])) (93 ∷ next) done (record { same = refl; ends = refl; value = refl }) (skip-other 40 _ refl refl) names
 
 -- ---- the four
 
@@ -97,15 +114,18 @@ Announce (n ∷ ns) (e ∷ es) = Announces n e × Announce ns es
 abbrev pub with_set_if : Bool → Extensions → List Extensions → List Extensions
 with_set_if taken e es = cond taken (e ∷ es) es
 
-both_if : (b : Bool) (n : Text) (e : Extensions) (ns : List Text) (es : List Extensions) → Announces n e → Announce ns es → Announce (with_name_if b n ns) (with_set_if b e es)
+both_if : (b : Bool) (n : Text) (e : Extensions) (ns : List Text) (es : List Extensions) → Announces n e → Announce ns es
+    → Announce (with_name_if b n ns) (with_set_if b e es)
 both_if true n e ns es h k = (h, k)
 both_if false n e ns es h k = k
 
 abbrev pub sets_of : Extensions → List Extensions
-sets_of x = with_set_if x.unwrap_newtypes only_newtypes (with_set_if x.implicit_some only_some (with_set_if x.unwrap_variant_newtypes only_variants (with_set_if x.explicit_struct_names only_names [])))
+sets_of x = with_set_if x.unwrap_newtypes only_newtypes
+    (with_set_if x.implicit_some only_some (with_set_if x.unwrap_variant_newtypes only_variants (with_set_if x.explicit_struct_names only_names [])))
 
 all_announce : (x : Extensions) → Announce (names_of_extensions x) (sets_of x)
-all_announce x = both_if x.unwrap_newtypes _ only_newtypes _ _ says_newtypes (both_if x.implicit_some _ only_some _ _ says_some (both_if x.unwrap_variant_newtypes _ only_variants _ _ says_variants (both_if x.explicit_struct_names _ only_names [] [] says_names tt)))
+all_announce x = both_if x.unwrap_newtypes _ only_newtypes _ _ says_newtypes (both_if x.implicit_some _ only_some _ _ says_some
+    (both_if x.unwrap_variant_newtypes _ only_variants _ _ says_variants (both_if x.explicit_struct_names _ only_names [] [] says_names tt)))
 
 module _ (c : Config) (gaps : AreGaps c) where
   -- attributes, the first behind this gap
@@ -132,13 +152,15 @@ module _ (c : Config) (gaps : AreGaps c) where
   moved [] t = refl
   moved (n ∷ ns) t =
       let rest = announcements_of c ns in
-      ap (λ u. c.new_line ++ u) (append_assoc (attribute_of n ++ c.new_line) rest t ∙ append_assoc (attribute_of n) c.new_line (rest ++ t) ∙ ap (λ u. attribute_of n ++ u) (moved ns t) ∙ sym (append_assoc (attribute_of n) (heads c.new_line ns) (c.new_line ++ t)))
+      ap (λ u. c.new_line ++ u) (append_assoc (attribute_of n ++ c.new_line) rest t ∙ append_assoc (attribute_of n) c.new_line (rest ++ t)
+      ∙ ap (λ u. attribute_of n ++ u) (moved ns t) ∙ sym (append_assoc (attribute_of n) (heads c.new_line ns) (c.new_line ++ t)))
       ∙ sym (append_assoc c.new_line (attribute_of n ++ heads c.new_line ns) (c.new_line ++ t))
 
   pub first_moved : (n : Text) (ns : List Text) (t : Text) → announcements_of c (n ∷ ns) ++ t ≡ heads [] (n ∷ ns) ++ (c.new_line ++ t)
   first_moved n ns t =
       let rest = announcements_of c ns in
-      append_assoc (attribute_of n ++ c.new_line) rest t ∙ append_assoc (attribute_of n) c.new_line (rest ++ t) ∙ ap (λ u. attribute_of n ++ u) (moved ns t) ∙ sym (append_assoc (attribute_of n) (heads c.new_line ns) (c.new_line ++ t))
+      append_assoc (attribute_of n ++ c.new_line) rest t ∙ append_assoc (attribute_of n) c.new_line (rest ++ t) ∙ ap (λ u. attribute_of n ++ u) (moved ns t)
+      ∙ sym (append_assoc (attribute_of n) (heads c.new_line ns) (c.new_line ++ t))
 
   -- The head: none; or attributes, with a new line before what follows.
   pub record Announced (defaults : Extensions) (t : Text) : Type 0 where
@@ -193,10 +215,16 @@ module _ (c : Config) (gaps : AreGaps c) where
   all_in_force : (x e : Extensions) → in_force x (sets_of (difference e x)) ≡ union x e
   all_in_force x e =
       let d = difference e x in
-      in_force_if d.unwrap_newtypes x only_newtypes _ ∙ ap (λ y. in_force y (with_set_if d.implicit_some only_some (with_set_if d.unwrap_variant_newtypes only_variants (with_set_if d.explicit_struct_names only_names [])))) (step_newtypes x.unwrap_newtypes x.implicit_some x.unwrap_variant_newtypes x.explicit_struct_names e.unwrap_newtypes)
-      ∙ in_force_if d.implicit_some _ only_some _ ∙ ap (λ y. in_force y (with_set_if d.unwrap_variant_newtypes only_variants (with_set_if d.explicit_struct_names only_names []))) (step_some (x.unwrap_newtypes || e.unwrap_newtypes) x.implicit_some x.unwrap_variant_newtypes x.explicit_struct_names e.implicit_some)
-      ∙ in_force_if d.unwrap_variant_newtypes _ only_variants _ ∙ ap (λ y. in_force y (with_set_if d.explicit_struct_names only_names [])) (step_variants (x.unwrap_newtypes || e.unwrap_newtypes) (x.implicit_some || e.implicit_some) x.unwrap_variant_newtypes x.explicit_struct_names e.unwrap_variant_newtypes)
-      ∙ in_force_if d.explicit_struct_names _ only_names _ ∙ step_names (x.unwrap_newtypes || e.unwrap_newtypes) (x.implicit_some || e.implicit_some) (x.unwrap_variant_newtypes || e.unwrap_variant_newtypes) x.explicit_struct_names e.explicit_struct_names
+      in_force_if d.unwrap_newtypes x only_newtypes _ ∙ ap (λ y. in_force y
+      (with_set_if d.implicit_some only_some (with_set_if d.unwrap_variant_newtypes only_variants (with_set_if d.explicit_struct_names only_names []))))
+      (step_newtypes x.unwrap_newtypes x.implicit_some x.unwrap_variant_newtypes x.explicit_struct_names e.unwrap_newtypes)
+      ∙ in_force_if d.implicit_some _ only_some _
+      ∙ ap (λ y. in_force y (with_set_if d.unwrap_variant_newtypes only_variants (with_set_if d.explicit_struct_names only_names [])))
+      (step_some (x.unwrap_newtypes || e.unwrap_newtypes) x.implicit_some x.unwrap_variant_newtypes x.explicit_struct_names e.implicit_some)
+      ∙ in_force_if d.unwrap_variant_newtypes _ only_variants _ ∙ ap (λ y. in_force y (with_set_if d.explicit_struct_names only_names [])) (step_variants
+      (x.unwrap_newtypes || e.unwrap_newtypes) (x.implicit_some || e.implicit_some) x.unwrap_variant_newtypes x.explicit_struct_names e.unwrap_variant_newtypes)
+      ∙ in_force_if d.explicit_struct_names _ only_names _ ∙ step_names (x.unwrap_newtypes || e.unwrap_newtypes) (x.implicit_some || e.implicit_some)
+      (x.unwrap_variant_newtypes || e.unwrap_variant_newtypes) x.explicit_struct_names e.explicit_struct_names
 
   pub announced : (defaults : Extensions) (t : Text) → Announced defaults t
   announced defaults t = go (names_of_extensions d) refl
@@ -219,7 +247,8 @@ module _ (c : Config) (gaps : AreGaps c) where
         head = heads [] (n ∷ ns);
         lead = c.new_line;
         split = ap (λ ns. announcements_of c ns ++ t) e ∙ first_moved n ns t;
-        is_head = subst (λ ns. Head (sets_of d) (heads [] ns) (c.new_line ++ t)) e (heads_spelled [] none (names_of_extensions d) (sets_of d) (all_announce d) (c.new_line ++ t));
+        is_head = subst (λ ns. Head (sets_of d) (heads [] ns) (c.new_line ++ t)) e
+            (heads_spelled [] none (names_of_extensions d) (sets_of d) (all_announce d) (c.new_line ++ t));
         is_in_force = all_in_force defaults c.extensions;
         form = inr (refl, gaps.new_line);
       }

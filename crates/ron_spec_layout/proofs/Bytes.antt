@@ -1,5 +1,6 @@
 -- The layout's bytes case by case: for `ron_ser`, which writes bytes.
-use Rattle.std.proofs.Common.{◌≡◌, ℕ, zero, suc, ◌/◌, ◌%◌, ◌<◌, ◌==◌, nat_lt, Bool, true, false, cond, List, [], ◌∷◌, ℤ, negsuc, codes, ◌++◌, map, pos, refl, ap, ap₂, ◌∙◌, arith}
+use Rattle.std.proofs.Common.{◌≡◌, ℕ, zero, suc, ◌/◌, ◌%◌, ◌<◌, ◌==◌, nat_lt, Bool, true, false, cond, List, [], ◌∷◌, ℤ, negsuc, codes, ◌++◌, map, pos, refl}
+use Rattle.std.proofs.Common.{ap, ap₂, ◌∙◌, arith}
 use Rattle.std.specs.Fmt.{digits, digits_onto, digit_glyph, decimal, signed_decimal}
 use Rattle.std.specs.List.{list_all}
 use Rattle.std.specs.Str.{encode_utf8_all, chars, IsUtf8}
@@ -54,8 +55,10 @@ digits_bytes (suc k) n ds e = go (n / 10 == 0) (digits_bytes k (n / 10) (digit_g
     one : encode_utf8_all (digit_glyph false (n % 10) ∷ ds) ≡ digit_glyph false (n % 10) ∷ ds
     one = ascii (digit_glyph false (n % 10)) ds small ∙ ap (λ t. digit_glyph false (n % 10) ∷ t) e
 
-    go : (b : Bool) → encode_utf8_all (digits_onto k 10 false (n / 10) (digit_glyph false (n % 10) ∷ ds)) ≡ digits_onto k 10 false (n / 10) (digit_glyph false (n % 10) ∷ ds)
-        → encode_utf8_all (cond b (digit_glyph false (n % 10) ∷ ds) (digits_onto k 10 false (n / 10) (digit_glyph false (n % 10) ∷ ds))) ≡ cond b (digit_glyph false (n % 10) ∷ ds) (digits_onto k 10 false (n / 10) (digit_glyph false (n % 10) ∷ ds))
+    go : (b : Bool) → encode_utf8_all (digits_onto k 10 false (n / 10) (digit_glyph false (n % 10) ∷ ds))
+        ≡ digits_onto k 10 false (n / 10) (digit_glyph false (n % 10) ∷ ds)
+        → encode_utf8_all (cond b (digit_glyph false (n % 10) ∷ ds) (digits_onto k 10 false (n / 10) (digit_glyph false (n % 10) ∷ ds)))
+        ≡ cond b (digit_glyph false (n % 10) ∷ ds) (digits_onto k 10 false (n / 10) (digit_glyph false (n % 10) ∷ ds))
     go true h = one
     go false h = h
 
@@ -86,13 +89,16 @@ pub bytes-plain_name : (bs : List ℕ) → IsUtf8 bs → is_plain_name (chars bs
 bytes-plain_name bs u h = rw h (encodes-chars bs u)
 
 pub bytes-raw_name : (bs : List ℕ) → IsUtf8 bs → is_plain_name (chars bs) ≡ false → name_bytes (chars bs) ≡ codes "r#" ++ bs
-bytes-raw_name bs u h = rw h (ascii 114 (35 ∷ chars bs) (omega arith) ∙ ap (λ t. 114 ∷ t) (ascii 35 (chars bs) (omega arith) ∙ ap (λ t. 35 ∷ t) (encodes-chars bs u)))
+bytes-raw_name bs u h =
+    rw h (ascii 114 (35 ∷ chars bs) (omega arith) ∙ ap (λ t. 114 ∷ t) (ascii 35 (chars bs) (omega arith) ∙ ap (λ t. 35 ∷ t) (encodes-chars bs u)))
 
 -- ---- texts one behind the other
 
 -- between ASCII texts
-pub bytes-enclosed : (a b t : Text) → list_all (λ c. nat_lt c 128) a ≡ true → list_all (λ c. nat_lt c 128) b ≡ true → encode_utf8_all (a ++ (t ++ b)) ≡ a ++ (encode_utf8_all t ++ b)
-bytes-enclosed a b t h k = encodes-append a (t ++ b) ∙ ap₂ (λ u v. u ++ v) (ascii_text a h) (encodes-append t b ∙ ap (λ u. encode_utf8_all t ++ u) (ascii_text b k))
+pub bytes-enclosed : (a b t : Text) → list_all (λ c. nat_lt c 128) a ≡ true → list_all (λ c. nat_lt c 128) b ≡ true
+    → encode_utf8_all (a ++ (t ++ b)) ≡ a ++ (encode_utf8_all t ++ b)
+bytes-enclosed a b t h k =
+    encodes-append a (t ++ b) ∙ ap₂ (λ u v. u ++ v) (ascii_text a h) (encodes-append t b ∙ ap (λ u. encode_utf8_all t ++ u) (ascii_text b k))
 
 -- behind a name
 pub bytes-named : (name t : Text) → encode_utf8_all (written_name name ++ t) ≡ name_bytes name ++ encode_utf8_all t
@@ -119,7 +125,8 @@ bytes-number false w n = signed_bytes n
 -- ---- unescaped texts
 
 pub bytes-plain : (t : Text) → needs_raw t ≡ false → encode_utf8_all (unescaped t) ≡ codes "\"" ++ (encode_utf8_all t ++ codes "\"")
-bytes-plain t h = ap (λ b. encode_utf8_all (cond b (codes "r" ++ between_hashes (suc (longest_hashes t)) t) (codes "\"" ++ (t ++ codes "\"")))) h ∙ bytes-enclosed (codes "\"") (codes "\"") t refl refl
+bytes-plain t h = ap (λ b. encode_utf8_all (cond b (codes "r" ++ between_hashes (suc (longest_hashes t)) t) (codes "\"" ++ (t ++ codes "\"")))) h
+    ∙ bytes-enclosed (codes "\"") (codes "\"") t refl refl
 
 hashes_ascii : (n : ℕ) → encode_utf8_all (hashes n) ≡ hashes n
 hashes_ascii zero = refl
@@ -130,30 +137,40 @@ raw_bytes n t =
     let rest = t ++ 34 ∷ hashes n in
     let behind : encode_utf8_all (34 ∷ hashes n) ≡ 34 ∷ hashes n = ascii 34 (hashes n) (omega arith) ∙ ap (λ u. 34 ∷ u) (hashes_ascii n) in
     ascii 114 (hashes n ++ 34 ∷ rest) (omega arith)
-    ∙ ap (λ u. 114 ∷ u) (encodes-append (hashes n) (34 ∷ rest) ∙ ap₂ (λ a b. a ++ b) (hashes_ascii n) (ascii 34 rest (omega arith) ∙ ap (λ u. 34 ∷ u) (encodes-append t (34 ∷ hashes n) ∙ ap (λ u. encode_utf8_all t ++ u) behind)))
+    ∙ ap (λ u. 114 ∷ u) (encodes-append (hashes n) (34 ∷ rest) ∙ ap₂ (λ a b. a ++ b) (hashes_ascii n)
+    (ascii 34 rest (omega arith) ∙ ap (λ u. 34 ∷ u) (encodes-append t (34 ∷ hashes n) ∙ ap (λ u. encode_utf8_all t ++ u) behind)))
 
 pub bytes-raw : (t : Text) → needs_raw t ≡ true → encode_utf8_all (unescaped t) ≡ codes "r" ++ between_hashes (suc (longest_hashes t)) (encode_utf8_all t)
-bytes-raw t h = ap (λ b. encode_utf8_all (cond b (codes "r" ++ between_hashes (suc (longest_hashes t)) t) (codes "\"" ++ (t ++ codes "\"")))) h ∙ raw_bytes (suc (longest_hashes t)) t
+bytes-raw t h = ap (λ b. encode_utf8_all (cond b (codes "r" ++ between_hashes (suc (longest_hashes t)) t) (codes "\"" ++ (t ++ codes "\"")))) h
+    ∙ raw_bytes (suc (longest_hashes t)) t
 
 -- ---- texts between those of items
 
-pub bytes-laid : (before : ℕ → Text) (k : ℕ) (ts : List Text) → encode_utf8_all (laid_from before k ts) ≡ laid_from (λ n. encode_utf8_all (before n)) k (map encode_utf8_all ts)
+pub bytes-laid : (before : ℕ → Text) (k : ℕ) (ts : List Text)
+    → encode_utf8_all (laid_from before k ts) ≡ laid_from (λ n. encode_utf8_all (before n)) k (map encode_utf8_all ts)
 bytes-laid before k [] = refl
-bytes-laid before k (t ∷ ts) = encodes-append (before k ++ t) (laid_from before (suc k) ts) ∙ ap₂ (λ a b. a ++ b) (encodes-append (before k) t) (bytes-laid before (suc k) ts)
+bytes-laid before k (t ∷ ts) =
+    encodes-append (before k ++ t) (laid_from before (suc k) ts) ∙ ap₂ (λ a b. a ++ b) (encodes-append (before k) t) (bytes-laid before (suc k) ts)
 
 module _ (c : Config) (x : Extensions) (level : ℕ) (docs : Docs) where
   pub bytes-colon : encode_utf8_all (colon c) ≡ codes ":" ++ encode_utf8_all c.separator
   bytes-colon = ascii 58 c.separator (omega arith)
 
-  pub bytes-pair : (key d : Data) → encode_utf8_all (layout c x level docs false key ++ (colon c ++ layout c x level docs false d)) ≡ layout_bytes c x level docs false key ++ (encode_utf8_all (colon c) ++ layout_bytes c x level docs false d)
-  bytes-pair key d = encodes-append (layout c x level docs false key) (colon c ++ layout c x level docs false d) ∙ ap (λ u. layout_bytes c x level docs false key ++ u) (encodes-append (colon c) (layout c x level docs false d))
+  pub bytes-pair : (key d : Data) → encode_utf8_all (layout c x level docs false key ++ (colon c ++ layout c x level docs false d))
+      ≡ layout_bytes c x level docs false key ++ (encode_utf8_all (colon c) ++ layout_bytes c x level docs false d)
+  bytes-pair key d = encodes-append (layout c x level docs false key) (colon c ++ layout c x level docs false d)
+      ∙ ap (λ u. layout_bytes c x level docs false key ++ u) (encodes-append (colon c) (layout c x level docs false d))
 
-  pub bytes-field : (name : Text) (d : Data) → encode_utf8_all (doc_comment c level docs name ++ (written_name name ++ (colon c ++ layout c x level (docs_within docs name) false d))) ≡ encode_utf8_all (doc_comment c level docs name) ++ (name_bytes name ++ (encode_utf8_all (colon c) ++ layout_bytes c x level (docs_within docs name) false d))
+  pub bytes-field : (name : Text) (d : Data) → encode_utf8_all
+      (doc_comment c level docs name ++ (written_name name ++ (colon c ++ layout c x level (docs_within docs name) false d))) ≡ encode_utf8_all
+      (doc_comment c level docs name) ++ (name_bytes name ++ (encode_utf8_all (colon c) ++ layout_bytes c x level (docs_within docs name) false d))
   bytes-field name d =
       let value = layout c x level (docs_within docs name) false d in
-      encodes-append (doc_comment c level docs name) (written_name name ++ (colon c ++ value)) ∙ ap (λ u. encode_utf8_all (doc_comment c level docs name) ++ u) (encodes-append (written_name name) (colon c ++ value) ∙ ap (λ u. name_bytes name ++ u) (encodes-append (colon c) value))
+      encodes-append (doc_comment c level docs name) (written_name name ++ (colon c ++ value)) ∙ ap (λ u. encode_utf8_all (doc_comment c level docs name) ++ u)
+      (encodes-append (written_name name) (colon c ++ value) ∙ ap (λ u. name_bytes name ++ u) (encodes-append (colon c) value))
 
 -- ---- whole texts
 
-pub bytes-full : (defaults : Extensions) (c : Config) (d : Data) → full_layout_bytes defaults c d ≡ announcements_bytes defaults c ++ layout_bytes c (extensions_under defaults c) 0 c.docs false d
+pub bytes-full : (defaults : Extensions) (c : Config) (d : Data)
+    → full_layout_bytes defaults c d ≡ announcements_bytes defaults c ++ layout_bytes c (extensions_under defaults c) 0 c.docs false d
 bytes-full defaults c d = encodes-append (announcements defaults c) (layout c (extensions_under defaults c) 0 c.docs false d)

@@ -1,5 +1,6 @@
 -- Gaps that whatever follows: those of a configuration.
-use Rattle.std.proofs.Common.{◌≡◌, ℕ, zero, suc, ◌-◌, ◌==◌, Bool, true, false, cond, not, ◌&&◌, ◌||◌, nat_lt, nat_le, ◌⊎◌, inl, inr, List, [], ◌∷◌, ◌++◌, codes, length, take, flat_map, refl, sym, ap, ◌∙◌, subst, append_assoc, eqb-true}
+use Rattle.std.proofs.Common.{◌≡◌, ℕ, zero, suc, ◌-◌, ◌==◌, Bool, true, false, cond, not, ◌&&◌, ◌||◌, nat_lt, nat_le, ◌⊎◌, inl, inr, List, [], ◌∷◌, ◌++◌, codes}
+use Rattle.std.proofs.Common.{length, take, flat_map, refl, sym, ap, ◌∙◌, subst, append_assoc, eqb-true}
 use Rattle.std.specs.List.{list_all, list_any, slice_split, onto_first}
 use Rattle.std.specs.Str.Lines.{lines_of_parts, lines}
 use Rattle.std.specs.Prelude.{slice_index}
@@ -85,8 +86,10 @@ inside_digits (c ∷ ds) t h k = plain c (ds ++ t) (apart is_ascii_digit 47 c re
 closed_number : (k : ℕ) → Closed (codes "/*[" ++ (decimal k ++ codes "]*/ "))
 closed_number k =
     let inner = 91 ∷ (decimal k ++ 93 ∷ []) in
-    let h : Piece (47 ∷ 42 ∷ (inner ++ 42 ∷ 47 ∷ [])) = block inner (plain 91 (decimal k ++ 93 ∷ []) refl refl (inside_digits (decimal k) (93 ∷ []) (decimal_every k) (plain 93 [] refl refl nothing))) in
-    let all : Closed ((47 ∷ 42 ∷ (inner ++ 42 ∷ 47 ∷ [])) ++ (32 ∷ [])) = piece (47 ∷ 42 ∷ (inner ++ 42 ∷ 47 ∷ [])) (32 ∷ []) (44 ∷ []) h (piece (32 ∷ []) [] (44 ∷ []) (blank 32 refl) none) in
+    let h : Piece (47 ∷ 42 ∷ (inner ++ 42 ∷ 47 ∷ [])) =
+    block inner (plain 91 (decimal k ++ 93 ∷ []) refl refl (inside_digits (decimal k) (93 ∷ []) (decimal_every k) (plain 93 [] refl refl nothing))) in
+    let all : Closed ((47 ∷ 42 ∷ (inner ++ 42 ∷ 47 ∷ [])) ++ (32 ∷ [])) =
+    piece (47 ∷ 42 ∷ (inner ++ 42 ∷ 47 ∷ [])) (32 ∷ []) (44 ∷ []) h (piece (32 ∷ []) [] (44 ∷ []) (blank 32 refl) none) in
     let same : (47 ∷ 42 ∷ (inner ++ 42 ∷ 47 ∷ [])) ++ (32 ∷ []) ≡ codes "/*[" ++ (decimal k ++ codes "]*/ ") =
     ap (λ u. 47 ∷ 42 ∷ 91 ∷ u) (append_assoc (decimal k ++ 93 ∷ []) (42 ∷ 47 ∷ []) (32 ∷ []) ∙ append_assoc (decimal k) (93 ∷ []) (42 ∷ 47 ∷ 32 ∷ [])) in
     subst Closed same all
@@ -147,9 +150,11 @@ ended : (t : Text) → list_all is_blank t ≡ true → list_any (λ n. n == lin
 ended [] h e = absurd (cc)
 ended (c ∷ t) h e = let k = and_parts (is_blank c) (list_all is_blank t) h in go (c == line_feed) refl e k.1 (ended t k.1)
   where
-    go : (q : Bool) → (c == line_feed) ≡ q → (q || list_any (λ n. n == line_feed) t) ≡ true → list_all is_blank t ≡ true → (list_any (λ n. n == line_feed) t ≡ true → Ended t) → Ended (c ∷ t)
+    go : (q : Bool) → (c == line_feed) ≡ q → (q || list_any (λ n. n == line_feed) t) ≡ true → list_all is_blank t ≡ true
+        → (list_any (λ n. n == line_feed) t ≡ true → Ended t) → Ended (c ∷ t)
     go true l z b f = record { front = []; rest = t; split = ap (λ u. u ∷ t) (eqb-true c line_feed l); in_line = tt; closed = closed_blanks t b }
-    go false l z b f = let r = f z in record { front = c ∷ r.front; rest = r.rest; split = ap (λ u. c ∷ u) r.split; in_line = (ap not l, r.in_line); closed = r.closed }
+    go false l z b f = let r = f z in
+        record { front = c ∷ r.front; rest = r.rest; split = ap (λ u. c ∷ u) r.split; in_line = (ap not l, r.in_line); closed = r.closed }
 
 every_append : (t u : Text) → Every in_line t → Every in_line u → Every in_line (t ++ u)
 every_append [] u h k = k
@@ -161,7 +166,8 @@ closed_line t new_line h e =
     let inner = 47 ∷ 32 ∷ (t ++ e.front) in
     let p : Piece (47 ∷ 47 ∷ (inner ++ line_feed ∷ [])) = line inner (refl, (refl, every_append t e.front h e.in_line)) in
     let same : (47 ∷ 47 ∷ (inner ++ line_feed ∷ [])) ++ e.rest ≡ codes "/// " ++ (t ++ new_line) =
-    ap (λ u. 47 ∷ 47 ∷ 47 ∷ 32 ∷ u) (append_assoc (t ++ e.front) (line_feed ∷ []) e.rest ∙ append_assoc t e.front (line_feed ∷ e.rest) ∙ ap (λ u. t ++ u) (sym e.split)) in
+    ap (λ u. 47 ∷ 47 ∷ 47 ∷ 32 ∷ u)
+    (append_assoc (t ++ e.front) (line_feed ∷ []) e.rest ∙ append_assoc t e.front (line_feed ∷ e.rest) ∙ ap (λ u. t ++ u) (sym e.split)) in
     subst Closed same (piece (47 ∷ 47 ∷ (inner ++ line_feed ∷ [])) e.rest (44 ∷ []) p e.closed)
 
 -- Doc comments end: none is written, or a new line ends them.
@@ -192,7 +198,8 @@ module _ (c : Config) (gaps : AreGaps c) where
   closed_lines : (level : ℕ) (ts : List Text) → AllInLine ts → Ended c.new_line → Closed (flat_map (doc_line c level) ts)
   closed_lines level [] h e = none
   closed_lines level (t ∷ ts) h e =
-      let same : (codes "/// " ++ (t ++ c.new_line)) ++ indentation c level ≡ doc_line c level t = ap (λ u. 47 ∷ 47 ∷ 47 ∷ 32 ∷ u) (append_assoc t c.new_line (indentation c level)) in
+      let same : (codes "/// " ++ (t ++ c.new_line)) ++ indentation c level ≡ doc_line c level t =
+      ap (λ u. 47 ∷ 47 ∷ 47 ∷ 32 ∷ u) (append_assoc t c.new_line (indentation c level)) in
       closed_append (subst Closed same (closed_append (closed_line t c.new_line h.0 e) (closed_indentation level))) (closed_lines level ts h.1 e)
 
   pub closed_doc : (level : ℕ) (docs : Docs) (name : Text) → DocsEnd c docs → Closed (doc_comment c level docs name)
@@ -200,7 +207,8 @@ module _ (c : Config) (gaps : AreGaps c) where
     where
       some : DocsEnd c docs → Closed (doc_lines c level (doc_of docs name))
       some (inl e) = subst (λ d. Closed (doc_lines c level (doc_of d name))) (sym e) none
-      some (inr e) = closed_lines level (lines (doc_of docs name)) (lines_in_line (slice_split (λ b. b == 10) (doc_of docs name)) (parts_in_line (doc_of docs name))) (ended c.new_line gaps.blank_line e)
+      some (inr e) = closed_lines level (lines (doc_of docs name))
+          (lines_in_line (slice_split (λ b. b == 10) (doc_of docs name)) (parts_in_line (doc_of docs name))) (ended c.new_line gaps.blank_line e)
 
       go : (b : Bool) → Closed (cond b [] (doc_lines c level (doc_of docs name)))
       go true = none

@@ -14,7 +14,8 @@ use Rattle.ron_spec_layout.specs.Config.{no_docs, no_config}
 use Rattle.ron_spec_layout.specs.Layout.{value_layout, layout_within, layout}
 
 unfoldable pub laying : Unit {0}
-unfolding unicode_ident is_plain_name digits chars is_utf8 encode skip skip_from after_comment short_escape is_hidden escaped_char escaped_byte value_layout layout_within
+unfolding unicode_ident is_plain_name digits chars is_utf8 encode skip skip_from after_comment short_escape is_hidden escaped_char escaped_byte value_layout
+    layout_within
 laying = tt
 
 -- the layout without a configuration, bare or not

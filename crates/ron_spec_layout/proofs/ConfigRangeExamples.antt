@@ -3,7 +3,8 @@ use Rattle.std.proofs.Common.{◌≡◌, ℕ, false, true, codes, pos, refl}
 use Rattle.ron_value_number.specs.declared.width.Width.TheVariants.{I8, U32}
 use Rattle.ron_value.specs.Tree as tree
 use Rattle.ron_base.specs.Extensions.{no_extensions}
-use Rattle.ron_spec_grammar.specs.Data.{Data, int_of, value_of, some_of, unit_struct_of, list_of, struct_of, newtype_variant_of, no_datas, data_and, no_fields, field_and}
+use Rattle.ron_spec_grammar.specs.Data.{Data, int_of, value_of, some_of, unit_struct_of, list_of, struct_of, newtype_variant_of, no_datas, data_and, no_fields}
+use Rattle.ron_spec_grammar.specs.Data.{field_and}
 use Rattle.ron_spec_grammar.specs.Rule.{Extensions}
 use Rattle.ron_spec_layout.specs.Depth.{writer_depth}
 use Rattle.ron_spec_layout.specs.Config.{Config, default_config, no_docs, doc_and}
@@ -49,11 +50,13 @@ options : full_layout no_extensions compact (range_of (some_of (u32 1)) (some_of
 unfolding laying
 options = refl
 
-last : full_layout no_extensions compact (struct_of (codes "RangeInclusive") (field_and (codes "start") (u32 1) (field_and (codes "last") (u32 5) no_fields))) ≡ codes "(start: 1, last: 5)"
+last : full_layout no_extensions compact (struct_of (codes "RangeInclusive") (field_and (codes "start") (u32 1) (field_and (codes "last") (u32 5) no_fields)))
+    ≡ codes "(start: 1, last: 5)"
 unfolding laying
 last = refl
 
-in_list : full_layout no_extensions (record compact { compact_arrays = true }) (list_of (data_and range (data_and (range_of (u32 2) (u32 3)) no_datas))) ≡ codes "[1..5, 2..3]"
+in_list : full_layout no_extensions (record compact { compact_arrays = true }) (list_of (data_and range (data_and (range_of (u32 2) (u32 3)) no_datas)))
+    ≡ codes "[1..5, 2..3]"
 unfolding laying
 in_list = refl
 

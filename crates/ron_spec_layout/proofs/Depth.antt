@@ -2,7 +2,9 @@
 use Rattle.std.proofs.Common.{◌≡◌, ◌+◌, ◌≤◌, max, Bool, true, false, cond, None, refl, ap, ap₂, arith}
 use Rattle.std.specs.Option.{is_some}
 use Rattle.ron_spec_words.specs.Characters.{Text}
-use Rattle.ron_spec_grammar.specs.Data.{Data, bool_of, int_of, char_of, str_of, bytes_of, the_unit, the_none, some_of, unit_struct_of, list_of, tuple_of, tuple_struct_of, map_of, newtype_of, struct_of, unit_variant_of, newtype_variant_of, tuple_variant_of, struct_variant_of, value_of, Datas, no_datas, data_and, Pairs, no_pairs, pair_and, Fields, no_fields, field_and, raw_of}
+use Rattle.ron_spec_grammar.specs.Data.{Data, bool_of, int_of, char_of, str_of, bytes_of, the_unit, the_none, some_of, unit_struct_of, list_of, tuple_of}
+use Rattle.ron_spec_grammar.specs.Data.{tuple_struct_of, map_of, newtype_of, struct_of, unit_variant_of, newtype_variant_of, tuple_variant_of}
+use Rattle.ron_spec_grammar.specs.Data.{struct_variant_of, value_of, Datas, no_datas, data_and, Pairs, no_pairs, pair_and, Fields, no_fields, field_and, raw_of}
 use Rattle.ron_spec_layout.specs.Config.{Config, no_config}
 use Rattle.ron_spec_layout.specs.Ranges.{range_text, compact_range}
 use Rattle.ron_spec_layout.specs.Depth.{writer_depth, items_writer_depth, pairs_writer_depth, fields_writer_depth}
@@ -18,7 +20,8 @@ module _ (c : Config) where
     no_deeper (newtype_of name d) = omega (arith, no_deeper d)
     no_deeper (struct_of name fields) = perhaps (is_some (compact_range c (struct_of name fields))) (fields_no_deeper fields)
       where
-        perhaps : (b : Bool) → fields_writer_depth c fields ≤ fields_writer_depth no_config fields → cond b 0 (fields_writer_depth c fields) ≤ fields_writer_depth no_config fields
+        perhaps : (b : Bool) → fields_writer_depth c fields ≤ fields_writer_depth no_config fields
+            → cond b 0 (fields_writer_depth c fields) ≤ fields_writer_depth no_config fields
         perhaps true h = omega arith
         perhaps false h = h
     no_deeper (newtype_variant_of name v d) = omega (arith, no_deeper d)

@@ -4,7 +4,8 @@ use Rattle.ron_spec_words.specs.Characters.{Text}
 use Rattle.ron_spec_words.specs.Reader.{bad}
 use Rattle.ron_base.specs.Extensions.{no_extensions}
 use Rattle.ron_value_number.specs.declared.width.Width.TheVariants.{I32}
-use Rattle.ron_spec_grammar.specs.Data.{Data, int_of, some_of, list_of, map_of, newtype_of, struct_of, struct_variant_of, no_datas, data_and, no_pairs, pair_and, no_fields, field_and}
+use Rattle.ron_spec_grammar.specs.Data.{Data, int_of, some_of, list_of, map_of, newtype_of, struct_of, struct_variant_of, no_datas, data_and, no_pairs}
+use Rattle.ron_spec_grammar.specs.Data.{pair_and, no_fields, field_and}
 use Rattle.ron_spec_grammar.specs.Schema.{Shape, int, struct, only, field}
 use Rattle.ron_spec_grammar.specs.Document.{Answer, ok, err, answer_document}
 use Rattle.ron_spec_grammar.proofs.Computing.{reading}
@@ -58,7 +59,8 @@ compact_structs_have_none : written (record (with (of_x (codes "first"))) { comp
 unfolding laying
 compact_structs_have_none = refl
 
-of_a_variant : written (with (of_x (codes "d"))) (struct_variant_of (codes "E") (codes "V") (field_and (codes "x") (i32 1) no_fields)) ≡ codes "V(\n    /// d\n    x: 1,\n)"
+of_a_variant : written (with (of_x (codes "d"))) (struct_variant_of (codes "E") (codes "V") (field_and (codes "x") (i32 1) no_fields))
+    ≡ codes "V(\n    /// d\n    x: 1,\n)"
 unfolding laying
 of_a_variant = refl
 
@@ -80,12 +82,14 @@ through_newtype : written path (outer (newtype_of (codes "N") inner)) ≡ codes 
 unfolding laying
 through_newtype = refl
 
-through_list : written path (outer (list_of (data_and inner no_datas))) ≡ codes "(\n    p: [\n        (\n            /// in\n            x: 1,\n            y: 2,\n        ),\n    ],\n)"
+through_list : written path (outer (list_of (data_and inner no_datas)))
+    ≡ codes "(\n    p: [\n        (\n            /// in\n            x: 1,\n            y: 2,\n        ),\n    ],\n)"
 unfolding laying
 through_list = refl
 
 -- past the limit they keep the new line and get no indentation
-past_the_limit : written (record path { depth_limit = 2 }) (outer (map_of (pair_and (some_of inner) inner no_pairs))) ≡ codes "(\n    p: {\n        Some((/// in\nx: 1, y: 2)): (/// in\nx: 1, y: 2),\n    },\n)"
+past_the_limit : written (record path { depth_limit = 2 }) (outer (map_of (pair_and (some_of inner) inner no_pairs)))
+    ≡ codes "(\n    p: {\n        Some((/// in\nx: 1, y: 2)): (/// in\nx: 1, y: 2),\n    },\n)"
 unfolding laying
 past_the_limit = refl
 
@@ -144,6 +148,7 @@ negated_text = refl
 not_blank : blank negated ≡ false
 not_blank = refl
 
-other_data : reads (written negated positive) ≡ ok (struct_of (codes "Point") (field_and (codes "x") (int_of I32 (neg_ℤ (pos 3))) (field_and (codes "y") (int_of I32 (neg_ℤ (pos 4))) no_fields)))
+other_data : reads (written negated positive)
+    ≡ ok (struct_of (codes "Point") (field_and (codes "x") (int_of I32 (neg_ℤ (pos 3))) (field_and (codes "y") (int_of I32 (neg_ℤ (pos 4))) no_fields)))
 unfolding laying reading
 other_data = refl

@@ -24,13 +24,15 @@ none_of : (name : Text) (ds : Fields) → Each (λ n. same_text n name ≡ false
 none_of name no_fields h = refl
 none_of name (field_and n d ds) h = rw h.0 (none_of name ds h.1)
 
-pub arranged_entries : (fields : List Field) (ds : Fields) → names_differ fields ≡ true → in_order fields (names_of ds) ≡ true → arranged fields (entries ds) ≡ Some ds
+pub arranged_entries : (fields : List Field) (ds : Fields) → names_differ fields ≡ true → in_order fields (names_of ds) ≡ true
+    → arranged fields (entries ds) ≡ Some ds
 arranged_entries [] no_fields h e = refl
 arranged_entries [] (field_and name d ds) h e = absurd (cc)
 arranged_entries (f ∷ fields) no_fields h e =
     let k = and_parts f.may_be_missing (in_order fields []) e in
     ap (λ b. with_item b None (arranged fields [])) k.0 ∙ arranged_entries fields no_fields (names_parts f fields h).1 k.1
-arranged_entries (f ∷ fields) (field_and name d ds) h e = go (is_named name f) refl e (arranged_entries fields ds differ.1) (arranged_entries fields (field_and name d ds) differ.1)
+arranged_entries (f ∷ fields) (field_and name d ds) h e =
+    go (is_named name f) refl e (arranged_entries fields ds differ.1) (arranged_entries fields (field_and name d ds) differ.1)
   where
     differ : (not (list_any (is_named f.name) fields) ≡ true) × (names_differ fields ≡ true)
     differ = names_parts f fields h
@@ -39,7 +41,8 @@ arranged_entries (f ∷ fields) (field_and name d ds) h e = go (is_named name f)
     item = (name, d)
 
     go : (b : Bool) → is_named name f ≡ b → cond b (in_order fields (names_of ds)) (f.may_be_missing && in_order fields (name ∷ names_of ds)) ≡ true
-        → (in_order fields (names_of ds) ≡ true → arranged fields (entries ds) ≡ Some ds) → (in_order fields (name ∷ names_of ds) ≡ true → arranged fields (item ∷ entries ds) ≡ Some (field_and name (d) ds))
+        → (in_order fields (names_of ds) ≡ true → arranged fields (entries ds) ≡ Some ds)
+        → (in_order fields (name ∷ names_of ds) ≡ true → arranged fields (item ∷ entries ds) ≡ Some (field_and name (d) ds))
         → arranged (f ∷ fields) (item ∷ entries ds) ≡ Some (field_and name (d) ds)
     go true k q there other =
         let same : f.name ≡ name = same_is f.name name k in
@@ -48,5 +51,6 @@ arranged_entries (f ∷ fields) (field_and name d ds) h e = go (is_named name f)
         ap₂ (with_item f.may_be_missing) first (skip_item item (entries ds) fields unlike ∙ there q)
     go false k q there other =
         let m = and_parts f.may_be_missing (in_order fields (name ∷ names_of ds)) q in
-        let first : find (is_of f.name) (item ∷ entries ds) ≡ None = none_of f.name (field_and name d ds) (all_unlike f.name fields (name ∷ names_of ds) (others f.name fields differ.0) m.1) in
+        let first : find (is_of f.name) (item ∷ entries ds) ≡ None =
+        none_of f.name (field_and name d ds) (all_unlike f.name fields (name ∷ names_of ds) (others f.name fields differ.0) m.1) in
         ap₂ (λ b o. with_item b o (arranged fields (item ∷ entries ds))) m.0 first ∙ other m.1

@@ -2,7 +2,8 @@
 use Rattle.std.proofs.Common.{◌≡◌, ℕ, Bool, true, false, List, [], ◌∷◌, codes, Some, pos, refl}
 use Rattle.unicode_ident.proofs.Computing.{unicode_ident}
 use Rattle.ron_value_number.specs.declared.width.Width.TheVariants.{U8}
-use Rattle.ron_spec_grammar.specs.Data.{Data, bool_of, int_of, the_none, some_of, tuple_of, newtype_of, struct_of, unit_variant_of, newtype_variant_of, tuple_variant_of, struct_variant_of, no_datas, data_and, no_fields, field_and}
+use Rattle.ron_spec_grammar.specs.Data.{Data, bool_of, int_of, the_none, some_of, tuple_of, newtype_of, struct_of, unit_variant_of, newtype_variant_of}
+use Rattle.ron_spec_grammar.specs.Data.{tuple_variant_of, struct_variant_of, no_datas, data_and, no_fields, field_and}
 use Rattle.ron_spec_grammar.specs.Schema.{Shape, newtype_variant, unit_variant, int, optional, tuple, enum}
 use Rattle.ron_spec_grammar.specs.Rule.{Extensions}
 use Rattle.ron_spec_grammar.specs.Document.{Document}
@@ -55,7 +56,8 @@ enum_name_refused = refl
 
 -- ---- bare content
 
-bare_struct : plain (with false false true true) false (v_of (struct_of (codes "Point") (field_and (codes "x") (small 1) (field_and (codes "y") (small 2) no_fields)))) ≡ codes "V(x:1,y:2)"
+bare_struct : plain (with false false true true) false
+    (v_of (struct_of (codes "Point") (field_and (codes "x") (small 1) (field_and (codes "y") (small 2) no_fields)))) ≡ codes "V(x:1,y:2)"
 unfolding laying
 bare_struct = refl
 
@@ -79,7 +81,8 @@ options = enum (codes "E") (record { name = codes "V"; content = newtype_variant
 
 pair_is_read_back : (room : ℕ) × Document (with false true true false) options 0 room (codes "V(Some(None,2))") (v_of (some_of (pair the_none (small 2))))
 unfolding laying
-pair_is_read_back = read_back (with false true true false) options 0 (v_of (some_of (pair the_none (small 2)))) refl (1, (_, refl, refl), (2, refl, (3 ∷ 4 ∷ [], refl, ((4, refl), ((refl, refl), tt))))) refl refl refl
+pair_is_read_back = read_back (with false true true false) options 0 (v_of (some_of (pair the_none (small 2)))) refl
+    (1, (_, refl, refl), (2, refl, (3 ∷ 4 ∷ [], refl, ((4, refl), ((refl, refl), tt))))) refl refl refl
 
 -- an enum with a variant whose name is that of the absent value
 abbrev absent : List Shape
@@ -87,4 +90,5 @@ absent = optional 1 ∷ enum (codes "F") (record { name = codes "None"; content 
 
 name_is_read_back : (room : ℕ) × Document (with false true false false) absent 0 room (codes "r#None") (some_of (unit_variant_of (codes "F") (codes "None")))
 unfolding laying
-name_is_read_back = read_back (with false true false false) absent 0 (some_of (unit_variant_of (codes "F") (codes "None"))) refl (1, refl, (_, refl, refl)) refl refl refl
+name_is_read_back =
+    read_back (with false true false false) absent 0 (some_of (unit_variant_of (codes "F") (codes "None"))) refl (1, refl, (_, refl, refl)) refl refl refl

@@ -57,7 +57,8 @@ structs_in_structs : written (nested 3) ≡ codes "(a:(a:(a:7)))"
 unfolding laying
 structs_in_structs = refl
 
-structs_and_numbers : written (struct_of (codes "T") (field_and (codes "p") point (field_and (codes "q") (int_of U8 (pos 0)) (field_and (codes "s") (struct_of (codes "S") no_fields) no_fields)))) ≡ codes "(p:(x:3,y:-4),q:0,s:())"
+structs_and_numbers : written (struct_of (codes "T") (field_and (codes "p") point
+    (field_and (codes "q") (int_of U8 (pos 0)) (field_and (codes "s") (struct_of (codes "S") no_fields) no_fields)))) ≡ codes "(p:(x:3,y:-4),q:0,s:())"
 unfolding laying
 structs_and_numbers = refl
 
@@ -134,7 +135,8 @@ unfolding unicode_ident
 name_with_marks = refl
 
 -- a name in a field's data comes before the next field's
-first_of_two_names : first_refused (struct_of (codes "S") (field_and (codes "a") (one (codes "b c")) (field_and [] (int_of U8 (pos 1)) no_fields))) ≡ Some (codes "b c")
+first_of_two_names : first_refused (struct_of (codes "S") (field_and (codes "a") (one (codes "b c")) (field_and [] (int_of U8 (pos 1)) no_fields)))
+    ≡ Some (codes "b c")
 unfolding unicode_ident
 first_of_two_names = refl
 
@@ -233,8 +235,11 @@ Integers seen gap = Means AnyInteger (in_width I8)
 
 list_of_integers : Stands (Items Integers) (codes "1,-2") (codes "]") (int_of I8 (pos 1) ∷ int_of I8 (neg_ℤ (pos 2)) ∷ [])
 unfolding digits
-list_of_integers = spaced_items Integers 93 [] (ends_delimiter 93 [] refl refl) (spacing no_config true 0) (is_spacing no_config (are_gaps no_config refl) true 0) (codes "1" ∷ codes "-2" ∷ []) (int_of I8 (pos 1) ∷ int_of I8 (neg_ℤ (pos 2)) ∷ [])
-    (record { stands = λ next e. integer_text_stands false I8 (pos 1) next refl e }, (record { stands = λ next e. integer_text_stands false I8 (neg_ℤ (pos 2)) next refl e }, tt))
+list_of_integers = spaced_items Integers 93 [] (ends_delimiter 93 [] refl refl) (spacing no_config true 0)
+    (is_spacing no_config (are_gaps no_config refl) true 0) (codes "1" ∷ codes "-2" ∷ []) (int_of I8 (pos 1) ∷ int_of I8 (neg_ℤ (pos 2)) ∷ []) (
+      record { stands = λ next e. integer_text_stands false I8 (pos 1) next refl e },
+      (record { stands = λ next e. integer_text_stands false I8 (neg_ℤ (pos 2)) next refl e }, tt),
+    )
 
 -- ---- reading back
 
@@ -259,7 +264,8 @@ abbrev texts : List Shape
 texts = struct (codes "S") (only (field (codes "c") 1 ∷ field (codes "t") 2 ∷ field (codes "b") 3 ∷ [])) ∷ char ∷ str ∷ bytes ∷ []
 
 abbrev one_of_each : Data
-one_of_each = struct_of (codes "S") (field_and (codes "c") (char_of 39) (field_and (codes "t") (str_of (10 ∷ [])) (field_and (codes "b") (bytes_of (255 ∷ [])) no_fields)))
+one_of_each = struct_of (codes "S")
+    (field_and (codes "c") (char_of 39) (field_and (codes "t") (str_of (10 ∷ [])) (field_and (codes "b") (bytes_of (255 ∷ [])) no_fields)))
 
 texts_are_read_back : (room : ℕ) × Document none texts 0 room (codes "(c:'\\'',t:\"\\n\",b:b\"\\xff\")") one_of_each
 unfolding laying

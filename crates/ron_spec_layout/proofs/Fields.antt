@@ -37,6 +37,7 @@ module _ {A : Type 0} (name : A → Text) (data_of : A → Data) where
   refused-from [] = refl
   refused-from (e ∷ es) = rw (refused-from es) (sides (is_name (name e)))
     where
-      sides : (b : Bool) → cond b (option_or (first_refused (data_of e)) (first_name (λ e. field_refused (name e) (data_of e)) es)) (Some (name e)) ≡ option_or (cond b (first_refused (data_of e)) (Some (name e))) (first_name (λ e. field_refused (name e) (data_of e)) es)
+      sides : (b : Bool) → cond b (option_or (first_refused (data_of e)) (first_name (λ e. field_refused (name e) (data_of e)) es)) (Some (name e))
+          ≡ option_or (cond b (first_refused (data_of e)) (Some (name e))) (first_name (λ e. field_refused (name e) (data_of e)) es)
       sides true = refl
       sides false = refl

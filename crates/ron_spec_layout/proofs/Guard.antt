@@ -1,5 +1,6 @@
 -- What begins like an option, and what stands before a bracket: for layouts whose Somes are written out or not.
-use Rattle.std.proofs.Common.{◌≡◌, ℕ, suc, ◌≤◌, ◌<◌, ◌==◌, Bool, true, false, cond, [], ◌∷◌, ◌++◌, length, codes, ◌⊎◌, inl, inr, refl, sym, ap, ◌∙◌, arith, append_assoc, append-nil, length-append}
+use Rattle.std.proofs.Common.{◌≡◌, ℕ, suc, ◌≤◌, ◌<◌, ◌==◌, Bool, true, false, cond, [], ◌∷◌, ◌++◌, length, codes, ◌⊎◌, inl, inr, refl, sym, ap, ◌∙◌, arith}
+use Rattle.std.proofs.Common.{append_assoc, append-nil, length-append}
 use Rattle.std.proofs.lemmas.Bool.{or_parts}
 use Rattle.unicode_ident.proofs.Computing.{unicode_ident}
 use Rattle.ron_spec_words.specs.Characters.{Text, line_feed, continues_name}
@@ -36,7 +37,8 @@ passed none w = inl refl
 passed (piece p g next h k) w =
     let one : Gap (p ++ []) (g ++ (next ++ w)) = piece p [] (g ++ (next ++ w)) h none in
     let same : skip (p ++ (g ++ (next ++ w))) ≡ skip (g ++ (next ++ w)) = ap (λ q. skip (q ++ (g ++ (next ++ w)))) (sym (append-nil p)) ∙ skip-gap one in
-    inr (rw (append_assoc p g (next ++ w), same) (let le = length-skip (g ++ (next ++ w)) in let some = some_characters h in omega (arith, le, some, length-append p (g ++ (next ++ w)))))
+    inr (rw (append_assoc p g (next ++ w), same)
+    (let le = length-skip (g ++ (next ++ w)) in let some = some_characters h in omega (arith, le, some, length-append p (g ++ (next ++ w)))))
 passed (last_line t h) w =
     let same : skip (47 ∷ 47 ∷ (t ++ w)) ≡ skip (after_line (t ++ w)) = skip-past (47 ∷ 47 ∷ (t ++ w)) (after_line (t ++ w)) refl refl in
     inr (rw same (let le = length-skip (after_line (t ++ w)) in let shorter = after_line-shorter (t ++ w) in omega (arith, le, shorter)))
@@ -65,7 +67,8 @@ pub skip-stands : {A : Type 0} {L : Text → Lang A} {t rest : Text} {a : A} →
 skip-stands {t = t} {rest = rest} h =
     let closed : (s : Text) → Gap h.before s = closed_at h.text_from h.is_before in
     let front : skip h.text_from ≡ h.text_from = skip-front h.text_from (41 ∷ rest) h.from.solid in
-    ap (λ u. skip (u ++ 41 ∷ rest)) h.split ∙ ap skip (append_assoc h.before h.text_from (41 ∷ rest)) ∙ skip-gap (closed (h.text_from ++ 41 ∷ rest)) ∙ h.from.solid
+    ap (λ u. skip (u ++ 41 ∷ rest)) h.split ∙ ap skip (append_assoc h.before h.text_from (41 ∷ rest)) ∙ skip-gap (closed (h.text_from ++ 41 ∷ rest))
+    ∙ h.from.solid
     ∙ ap (λ u. u ++ 41 ∷ rest) (sym (ap skip h.split ∙ skip-gap (closed h.text_from) ∙ front))
   where
     closed_at : {g : Text} (u : Text) → Gap g (u ++ 41 ∷ rest) → (s : Text) → Gap g s
@@ -85,7 +88,8 @@ some_every = (refl, (refl, (refl, (refl, tt))))
 run-bracket : (u s : Text) → run_of continues_name (u ++ 41 ∷ s) ≡ run_of continues_name u
 unfolding unicode_ident
 run-bracket [] s = refl
-run-bracket (c ∷ u) s = elim (continues_name c) as (λ b. cond b (c ∷ run_of continues_name (u ++ 41 ∷ s)) [] ≡ cond b (c ∷ run_of continues_name u) []) [ true ↦ ap (λ z. c ∷ z) (run-bracket u s) | false ↦ refl ]
+run-bracket (c ∷ u) s = elim (continues_name c) as (λ b. cond b (c ∷ run_of continues_name (u ++ 41 ∷ s)) []
+    ≡ cond b (c ∷ run_of continues_name u) []) [ true ↦ ap (λ z. c ∷ z) (run-bracket u s) | false ↦ refl ]
 
 word-bracket : (w u s : Text) → Every continues_name w → stands w (u ++ 41 ∷ s) ≡ stands w u
 word-bracket w u s h = stands-run w (u ++ 41 ∷ s) h ∙ ap (λ r. same_text r w) (run-bracket u s) ∙ sym (stands-run w u h)

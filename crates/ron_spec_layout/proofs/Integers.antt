@@ -1,5 +1,6 @@
 -- An integer in decimal spells the integer, begins no option and is no float: for each layout that writes a number.
-use Rattle.std.proofs.Common.{◌≡◌, ℕ, zero, suc, ◌^◌, ◌/◌, ◌%◌, ◌<◌, ◌≤◌, ◌==◌, nat_lt, Bool, true, false, cond, ℤ, pos, negsuc, [], ◌∷◌, ◌++◌, length, codes, None, append-nil, refl, sym, ◌∙◌, arith, int_le}
+use Rattle.std.proofs.Common.{◌≡◌, ℕ, zero, suc, ◌^◌, ◌/◌, ◌%◌, ◌<◌, ◌≤◌, ◌==◌, nat_lt, Bool, true, false, cond, ℤ, pos, negsuc, [], ◌∷◌, ◌++◌, length, codes}
+use Rattle.std.proofs.Common.{None, append-nil, refl, sym, ◌∙◌, arith, int_le}
 use Rattle.std.specs.Fmt.{digits, digits_onto, digit_glyph, decimal, signed_decimal}
 use Rattle.std.proofs.lemmas.Bool.{leb-true, and_parts}
 use Rattle.std.proofs.lemmas.Bool.Decides.{nat_tests}
@@ -76,7 +77,8 @@ plain_suits w (negsuc n) = refl
 digit_first : (n : ℕ) → is_ascii_hexdigit (digit_glyph false (n % 10)) ≡ true
 digit_first n = grind (arith, nat_tests)
 
-first_step : (k n : ℕ) (ds : Text) → begins is_ascii_hexdigit (digits_onto k 10 false (n / 10) (digit_glyph false (n % 10) ∷ ds)) ≡ true → begins is_ascii_hexdigit (digits_onto (suc k) 10 false n ds) ≡ true
+first_step : (k n : ℕ) (ds : Text) → begins is_ascii_hexdigit (digits_onto k 10 false (n / 10) (digit_glyph false (n % 10) ∷ ds)) ≡ true
+    → begins is_ascii_hexdigit (digits_onto (suc k) 10 false n ds) ≡ true
 first_step k n ds = go (n / 10 == 0)
   where
     more : Text
@@ -88,7 +90,8 @@ first_step k n ds = go (n / 10 == 0)
 
 digits_no_option : (ds next : Text) → begins is_ascii_hexdigit ds ≡ true → opens_as_option (ds ++ next) ≡ false
 digits_no_option [] next h = absurd (cc)
-digits_no_option (c ∷ ds) next h = other_mark c (ds ++ next) (solid_hexdigit c (ds ++ next) h).1 (apart is_ascii_hexdigit 78 c refl h) (apart is_ascii_hexdigit 83 c refl h)
+digits_no_option (c ∷ ds) next h =
+    other_mark c (ds ++ next) (solid_hexdigit c (ds ++ next) h).1 (apart is_ascii_hexdigit 78 c refl h) (apart is_ascii_hexdigit 83 c refl h)
 
 digits_first : (k n : ℕ) (ds : Text) → begins is_ascii_hexdigit ds ≡ true → begins is_ascii_hexdigit (digits_onto k 10 false n ds) ≡ true
 digits_first zero n ds h = h
@@ -96,7 +99,8 @@ digits_first (suc k) n ds h = first_step k n ds (digits_first k (n / 10) (digit_
 
 pub integer_no_option : (n : ℤ) (next : Text) → opens_as_option (signed_decimal n ++ next) ≡ false
 unfolding digits
-integer_no_option (pos n) next = digits_no_option (decimal n) next (first_step 63 n [] (digits_first 63 (n / 10) (digit_glyph false (n % 10) ∷ []) (digit_first n)))
+integer_no_option (pos n) next =
+    digits_no_option (decimal n) next (first_step 63 n [] (digits_first 63 (n / 10) (digit_glyph false (n % 10) ∷ []) (digit_first n)))
 integer_no_option (negsuc n) next = other_mark 45 (decimal (suc n) ++ next) (skip-other 45 (decimal (suc n) ++ next) refl refl) refl refl
 
 -- ---- no float stands where an integer in decimal does
@@ -132,10 +136,13 @@ before_dots-shorter (c ∷ t) = go (begins_with (codes "..") (c ∷ t)) (before_
     go false le = omega (arith, le)
 
 -- digits that nothing goes on with are as many in either run
-digits_no_float : (ds next : Text) → Every is_ascii_digit ds → Ends next → nat_lt (length (run_of in_number (ds ++ next))) (length (before_dots (run_of in_float (ds ++ next)))) ≡ false
+digits_no_float : (ds next : Text) → Every is_ascii_digit ds → Ends next
+    → nat_lt (length (run_of in_number (ds ++ next))) (length (before_dots (run_of in_float (ds ++ next)))) ≡ false
 digits_no_float ds next h e =
-    let as_number : run_of in_number (ds ++ next) ≡ ds = run-append in_number ds next (every-weaker is_ascii_digit in_number (λ c k. rw k refl) ds h) (quiet_class in_number number_goes_on next e.0) in
-    let as_float : run_of in_float (ds ++ next) ≡ ds = run-append in_float ds next (every-weaker is_ascii_digit in_float (λ c k. rw k refl) ds h) (quiet_class in_float float_goes_on next e.0) in
+    let as_number : run_of in_number (ds ++ next) ≡ ds =
+    run-append in_number ds next (every-weaker is_ascii_digit in_number (λ c k. rw k refl) ds h) (quiet_class in_number number_goes_on next e.0) in
+    let as_float : run_of in_float (ds ++ next) ≡ ds =
+    run-append in_float ds next (every-weaker is_ascii_digit in_float (λ c k. rw k refl) ds h) (quiet_class in_float float_goes_on next e.0) in
     rw (as_number, as_float) (go (nat_lt (length ds) (length (before_dots ds))) refl)
   where
     go : (b : Bool) → nat_lt (length ds) (length (before_dots ds)) ≡ b → b ≡ false

@@ -47,7 +47,8 @@ module _ {A : Type 0} (L : List A → Text → Lang A) (close : ℕ) (next : Tex
   more_ends (t ∷ ts) = ends_delimiter 44 ((t ++ more ts) ++ (close ∷ next)) refl refl
 
   -- an item, and what stands behind it
-  item_then : (seen : List A) (t : Text) (a : A) (ts : List Text) (xs : List A) (h : Stands (L seen) t (more ts ++ (close ∷ next)) a) → Tail L (a ∷ seen) (more ts) (close ∷ next) xs
+  item_then : (seen : List A) (t : Text) (a : A) (ts : List Text) (xs : List A) (h : Stands (L seen) t (more ts ++ (close ∷ next)) a)
+      → Tail L (a ∷ seen) (more ts) (close ∷ next) xs
       → Then (At (L seen h.before) a) (λ _ _ u n _. Tail L (a ∷ seen) u n xs) (h.text_from ++ more ts) (close ∷ next) done
   item_then seen t a ts xs h z = record {
     value = done;
@@ -61,14 +62,24 @@ module _ {A : Type 0} (L : List A → Text → Lang A) (close : ℕ) (next : Tex
   }
 
   gap_then : (t u : Text) {a : A} {seen : List A} (h : Stands (L seen) t (u ++ (close ∷ next)) a) → LongGap h.before ((h.text_from ++ u) ++ (close ∷ next))
-  gap_then t u h = record { is_gap = rw (append_assoc h.text_from u (close ∷ next)) h.is_before; longest = rw (append_assoc h.text_from u (close ∷ next)) h.from.solid }
+  gap_then t u h =
+      record { is_gap = rw (append_assoc h.text_from u (close ∷ next)) h.is_before; longest = rw (append_assoc h.text_from u (close ∷ next)) h.from.solid }
 
   last_tail : (seen : List A) → Tail L seen last (close ∷ next) []
   last_tail seen = go is_last
     where
       go : IsLast last → Tail L seen last (close ∷ next) []
       go (inl e) = inl (e, refl)
-      go (inr h) = inr (record { value = done; left = 44 ∷ []; gap = h.0; right = []; split = h.1 ∙ ap (λ u. 44 ∷ u) (sym (append-nil h.0)); first = (refl, refl); is_gap = record { is_gap = before_any h.2 (close ∷ next); longest = closes.1 }; second = (refl, refl) })
+      go (inr h) = inr (record {
+        value = done;
+        left = 44 ∷ [];
+        gap = h.0;
+        right = [];
+        split = h.1 ∙ ap (λ u. 44 ∷ u) (sym (append-nil h.0));
+        first = (refl, refl);
+        is_gap = record { is_gap = before_any h.2 (close ∷ next); longest = closes.1 };
+        second = (refl, refl);
+      })
 
   tail : (seen : List A) (ts : List Text) (xs : List A) → AreItems L seen ts xs → Tail L seen (more ts) (close ∷ next) xs
   unfolding more
@@ -102,9 +113,11 @@ module _ {A : Type 0} (L : List A → Text → Lang A) (close : ℕ) (next : Tex
       }
 
   pub items_closed : (t : Text) (ts : List Text) (xs : List A) → AreItems L [] (t ∷ ts) xs → Stands (Items L) (joined (t ∷ ts) ++ last) (close ∷ next) xs
-  items_closed t ts xs h = subst (λ u. Stands (Items L) u (close ∷ next) xs) (sym (append_assoc t (behind_commas ts) last ∙ ap (λ u. t ++ u) (more_is ts))) (items_last t ts xs h)
+  items_closed t ts xs h =
+      subst (λ u. Stands (Items L) u (close ∷ next) xs) (sym (append_assoc t (behind_commas ts) last ∙ ap (λ u. t ++ u) (more_is ts))) (items_last t ts xs h)
 
-pub spaced_items : {A : Type 0} (L : List A → Text → Lang A) (close : ℕ) (next : Text) → Ends (close ∷ next) → (s : Spacing) → IsSpacing s → (ts : List Text) (xs : List A) → AreItems L [] (led_by s.first s.between ts) xs → Stands (Items L) (spaced s ts) (close ∷ next) xs
+pub spaced_items : {A : Type 0} (L : List A → Text → Lang A) (close : ℕ) (next : Text) → Ends (close ∷ next) → (s : Spacing) → IsSpacing s
+    → (ts : List Text) (xs : List A) → AreItems L [] (led_by s.first s.between ts) xs → Stands (Items L) (spaced s ts) (close ∷ next) xs
 spaced_items L close next e s h [] [] a = record { before = []; text_from = []; split = refl; is_before = none; from = whole e.1 e.1 refl }
 spaced_items L close next e s h [] (x ∷ xs) a = absurd a
 spaced_items L close next e s h (t ∷ ts) xs a = items_closed L close next e s.last h.last (s.first ++ t) (led_by s.between s.between ts) xs a

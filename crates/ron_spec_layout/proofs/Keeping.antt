@@ -25,9 +25,11 @@ no_somes true t = go (opens_as_option t)
     go true = refl
     go false = refl
 
-pub layout-explicit : (c : Config) (x : Extensions) (level : ℕ) (docs : Docs) → x.implicit_some ≡ false → (bare : Bool) (n : ℕ) (d : Data) → layout_within c x level docs bare n (some_of d) ≡ in_some (layout c x level docs x.unwrap_variant_newtypes d)
+pub layout-explicit : (c : Config) (x : Extensions) (level : ℕ) (docs : Docs) → x.implicit_some ≡ false → (bare : Bool) (n : ℕ) (d : Data)
+    → layout_within c x level docs bare n (some_of d) ≡ in_some (layout c x level docs x.unwrap_variant_newtypes d)
 unfolding layout_within
-layout-explicit c x level docs e bare n d = ap (λ s. cond s (layout_within c x level docs bare (suc n) d) (in_some (layout c x level docs x.unwrap_variant_newtypes d))) e
+layout-explicit c x level docs e bare n d =
+    ap (λ s. cond s (layout_within c x level docs bare (suc n) d) (in_some (layout c x level docs x.unwrap_variant_newtypes d))) e
 
 module _ (c : Config) (x : Extensions) (level : ℕ) (docs : Docs) (implicit : x.implicit_some ≡ true) where
   pub layout-some : (bare : Bool) (n : ℕ) (d : Data) → layout_within c x level docs bare n (some_of d) ≡ layout_within c x level docs bare (suc n) d
@@ -43,7 +45,8 @@ module _ (c : Config) (x : Extensions) (level : ℕ) (docs : Docs) (implicit : x
   pub value_kept : (t : Tree) (bare : Bool) (n : ℕ) → value_keeps t ≡ true → value_layout c x level bare n t ≡ in_somes n (value_layout c x level bare 0 t)
   unfolding value_layout
   value_kept tree.none bare n h = refl
-  value_kept (tree.some t) bare n h = some_laid bare n t ∙ value_kept t bare (suc n) h ∙ sym (one_more n (value_layout c x level bare 0 t)) ∙ ap (in_somes n) (sym (some_laid bare 0 t ∙ value_kept t bare 1 h))
+  value_kept (tree.some t) bare n h = some_laid bare n t ∙ value_kept t bare (suc n) h ∙ sym (one_more n (value_layout c x level bare 0 t))
+      ∙ ap (in_somes n) (sym (some_laid bare 0 t ∙ value_kept t bare 1 h))
   value_kept _ bare n h = absurd (cc)
 
   pub value_dropped : (t : Tree) (bare : Bool) (n : ℕ) → value_keeps t ≡ false → value_layout c x level bare n t ≡ value_layout c x level bare 0 t
@@ -60,10 +63,12 @@ module _ (c : Config) (x : Extensions) (level : ℕ) (docs : Docs) (implicit : x
 
   -- ---- data
 
-  pub kept : (d : Data) (bare : Bool) (n : ℕ) → keeps c x level docs bare d ≡ true → layout_within c x level docs bare n d ≡ in_somes n (layout c x level docs bare d)
+  pub kept : (d : Data) (bare : Bool) (n : ℕ) → keeps c x level docs bare d ≡ true
+      → layout_within c x level docs bare n d ≡ in_somes n (layout c x level docs bare d)
   unfolding layout_within
   kept the_none bare n h = refl
-  kept (some_of d) bare n h = layout-some bare n d ∙ kept d bare (suc n) h ∙ sym (one_more n (layout c x level docs bare d)) ∙ ap (in_somes n) (sym (layout-some bare 0 d ∙ kept d bare 1 h))
+  kept (some_of d) bare n h = layout-some bare n d ∙ kept d bare (suc n) h ∙ sym (one_more n (layout c x level docs bare d))
+      ∙ ap (in_somes n) (sym (layout-some bare 0 d ∙ kept d bare 1 h))
   kept (tuple_of ds) false n h = absurd (cc)
   kept (tuple_of ds) true n h = rw h refl
   kept (tuple_struct_of name ds) false n h = absurd (cc)
@@ -86,7 +91,8 @@ module _ (c : Config) (x : Extensions) (level : ℕ) (docs : Docs) (implicit : x
       wrapped : Text
       wrapped = behind_name (c.struct_names || x.explicit_struct_names) false name (bracketed false (layout c x level docs false d))
 
-      go : (b : Bool) → (b && keeps c x level docs false d) ≡ false → (keeps c x level docs false d ≡ false → layout_within c x level docs false n d ≡ layout c x level docs false d) → cond b (layout_within c x level docs false n d) wrapped ≡ cond b (layout c x level docs false d) wrapped
+      go : (b : Bool) → (b && keeps c x level docs false d) ≡ false → (keeps c x level docs false d ≡ false → layout_within c x level docs false n d
+          ≡ layout c x level docs false d) → cond b (layout_within c x level docs false n d) wrapped ≡ cond b (layout c x level docs false d) wrapped
       go true k same = same k
       go false k same = refl
   dropped (value_of t) bare n h = value_dropped t bare n h
@@ -107,7 +113,8 @@ module _ (c : Config) (x : Extensions) (level : ℕ) (docs : Docs) (implicit : x
 
   pending_more : (bare : Bool) (m n : ℕ) (d : Data) → layout_within c x level docs bare (m + n) d ≡ layout_within c x level docs bare m (somes n d)
   pending_more bare m zero d = let none : m + 0 ≡ m = omega arith in ap (λ k. layout_within c x level docs bare k d) none
-  pending_more bare m (suc n) d = let more : m + suc n ≡ suc m + n = omega arith in ap (λ k. layout_within c x level docs bare k d) more ∙ pending_more bare (suc m) n d ∙ sym (layout-some bare m (somes n d))
+  pending_more bare m (suc n) d = let more : m + suc n ≡ suc m + n = omega arith in
+      ap (λ k. layout_within c x level docs bare k d) more ∙ pending_more bare (suc m) n d ∙ sym (layout-some bare m (somes n d))
 
   pub pending : (bare : Bool) (n : ℕ) (d : Data) → layout_within c x level docs bare n d ≡ layout c x level docs bare (somes n d)
   pending bare n d = let none : n ≡ 0 + n = omega arith in ap (λ k. layout_within c x level docs bare k d) none ∙ pending_more bare 0 n d

@@ -10,7 +10,8 @@ use Rattle.ron_spec_layout.proofs.Closed.{Closed}
 pub lead_value : (lead t : Text) → Closed lead → (v : Tree) → raw_value t ≡ Some v → raw_value (lead ++ t) ≡ Some v
 lead_value lead t g v e =
     let b = raw_sound t v e in
-    let body : RawBody ((lead ++ b.before) ++ (b.core ++ b.after)) v = within_gaps b.before b.core b.after v (lead ++ b.before) b.after b.after b.spelled (stops b.after b.is_after) (before_gap false raw_limit (omega arith) lead t v false b g) b.is_after in
+    let body : RawBody ((lead ++ b.before) ++ (b.core ++ b.after)) v = within_gaps b.before b.core b.after v (lead ++ b.before) b.after b.after b.spelled
+    (stops b.after b.is_after) (before_gap false raw_limit (omega arith) lead t v false b g) b.is_after in
     let same : (lead ++ b.before) ++ (b.core ++ b.after) ≡ lead ++ t = append_assoc lead b.before (b.core ++ b.after) ∙ ap (λ u. lead ++ u) (sym b.split) in
     raw_complete (lead ++ t) v (subst (λ u. RawBody u v) same body)
 

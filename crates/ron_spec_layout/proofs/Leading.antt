@@ -1,5 +1,6 @@
 -- How the text of items begins, so that a raw text in it is told from an option: for `ron_ser`, which looks at that beginning.
-use Rattle.std.proofs.Common.{◌≡◌, ℕ, Bool, true, false, not, ◌&&◌, ◌||◌, cond, List, [], ◌∷◌, ◌++◌, length, codes, flat_map, drop, inl, inr, refl, sym, ap, ap₂, subst, ◌∙◌, append_assoc, arith}
+use Rattle.std.proofs.Common.{◌≡◌, ℕ, Bool, true, false, not, ◌&&◌, ◌||◌, cond, List, [], ◌∷◌, ◌++◌, length, codes, flat_map, drop, inl, inr, refl, sym, ap}
+use Rattle.std.proofs.Common.{ap₂, subst, ◌∙◌, append_assoc, arith}
 use Rattle.std.specs.List.{flat_map, list_all}
 use Rattle.unicode_ident.proofs.Computing.{unicode_ident}
 use Rattle.ron_spec_words.specs.Characters.{Text, is_blank, continues_name, continues_word}
@@ -11,7 +12,9 @@ use Rattle.ron_spec_words.proofs.Direct.{begins-drop}
 use Rattle.ron_spec_words.proofs.Classes.{Solid}
 use Rattle.ron_value.specs.Tree.{Tree}
 use Rattle.ron_value.specs.Tree as tree
-use Rattle.ron_spec_grammar.specs.Data.{Data, bool_of, int_of, char_of, str_of, bytes_of, the_unit, the_none, some_of, unit_struct_of, list_of, tuple_of, tuple_struct_of, map_of, struct_of, unit_variant_of, newtype_variant_of, tuple_variant_of, struct_variant_of, value_of, newtype_of, raw_of, Datas, no_datas, data_and}
+use Rattle.ron_spec_grammar.specs.Data.{Data, bool_of, int_of, char_of, str_of, bytes_of, the_unit, the_none, some_of, unit_struct_of, list_of, tuple_of}
+use Rattle.ron_spec_grammar.specs.Data.{tuple_struct_of, map_of, struct_of, unit_variant_of, newtype_variant_of, tuple_variant_of, struct_variant_of, value_of}
+use Rattle.ron_spec_grammar.specs.Data.{newtype_of, raw_of, Datas, no_datas, data_and}
 use Rattle.ron_spec_grammar.specs.Rule.{Extensions}
 use Rattle.ron_spec_grammar.specs.Raw.{raw_limit, raw_valid}
 use Rattle.ron_spec_grammar.proofs.Raw.Quiet.{Quiet, quiet_begins, quiet_class, name_goes_on}
@@ -40,11 +43,13 @@ stands-quiet w s next h q = rw (quiet_begins w s next h q) (go (begins_with w s)
     past [] u = refl
     past (c ∷ v) u = past v u
 
-    go : (b : Bool) → begins_with w s ≡ b → (b && not (begins continues_name (drop (length w) (s ++ next)))) ≡ (b && not (begins continues_name (drop (length w) s)))
+    go : (b : Bool) → begins_with w s ≡ b
+        → (b && not (begins continues_name (drop (length w) (s ++ next)))) ≡ (b && not (begins continues_name (drop (length w) s)))
     go false e = refl
     go true e =
         let split = begins-drop w s e in
-        ap not (ap (λ u. begins continues_name (drop (length w) (u ++ next))) split ∙ ap (begins continues_name) (past w (drop (length w) s)) ∙ ap (λ u. begins continues_name (u ++ next)) (ap (drop (length w)) (sym split)) ∙ tail (drop (length w) s))
+        ap not (ap (λ u. begins continues_name (drop (length w) (u ++ next))) split ∙ ap (begins continues_name) (past w (drop (length w) s))
+        ∙ ap (λ u. begins continues_name (u ++ next)) (ap (drop (length w)) (sym split)) ∙ tail (drop (length w) s))
 
 words : (list_all continues_word (codes "None") ≡ true) × (list_all continues_word (codes "Some") ≡ true)
 unfolding unicode_ident
@@ -67,7 +72,8 @@ raw_leads t next valid e =
     let solid = value_solid false raw_limit b.before b.core b.after v.0 b.spelled in
     let core : Text = b.core ++ b.after in
     let here : skip t ≡ core = ap skip b.split ∙ skip-append b.before core b.is_before in
-    let there : skip (t ++ next) ≡ core ++ next = ap skip (ap (λ u. u ++ next) b.split ∙ append_assoc b.before core next) ∙ skip-gap (gap_any b.is_before.is_gap (solid_some core solid) (core ++ next)) ∙ solid-front core next solid in
+    let there : skip (t ++ next) ≡ core ++ next = ap skip (ap (λ u. u ++ next) b.split ∙ append_assoc b.before core next)
+    ∙ skip-gap (gap_any b.is_before.is_gap (solid_some core solid) (core ++ next)) ∙ solid-front core next solid in
     rw (here, there) (ap₂ (λ x y. x || y) (stands-quiet (codes "None") core next words.0 e.0) (stands-quiet (codes "Some") core next words.1 e.0))
 
 module _ (x : Extensions) (implicit : x.implicit_some ≡ true) where
@@ -106,11 +112,13 @@ module _ (c : Config) (gaps : AreGaps c) (x : Extensions) (level : ℕ) (docs : 
   value_is_kept : (t : Tree) (next : Text) → value_keeps t ≡ true → Ends next → opens_as_option (value_layout c x level false 0 t ++ next) ≡ true
   unfolding value_layout
   value_is_kept tree.none next h e = none_opens x implicit next e
-  value_is_kept (tree.some t) next h e = ap (λ s. opens_as_option (s ++ next)) (some_laid c x level docs implicit false 0 t ∙ value_kept c x level docs implicit t false 1 h) ∙ some_opens x implicit (value_layout c x level false 0 t) next
+  value_is_kept (tree.some t) next h e = ap (λ s. opens_as_option (s ++ next)) (some_laid c x level docs implicit false 0 t
+      ∙ value_kept c x level docs implicit t false 1 h) ∙ some_opens x implicit (value_layout c x level false 0 t) next
   value_is_kept _ next h e = absurd (cc)
 
   -- the data is neither raw nor a newtype, so what it keeps is what its text begins with
-  opens_kept : (d : Data) (next : Text) → (is_kept x d ≡ true → opens_as_option (layout c x level docs false d ++ next) ≡ true) → Ends next → opens_as_option (layout c x level docs false d ++ next) ≡ is_kept x d
+  opens_kept : (d : Data) (next : Text) → (is_kept x d ≡ true → opens_as_option (layout c x level docs false d ++ next) ≡ true) → Ends next
+      → opens_as_option (layout c x level docs false d ++ next) ≡ is_kept x d
   opens_kept d next h e = go (is_kept x d) refl
     where
       go : (b : Bool) → is_kept x d ≡ b → opens_as_option (layout c x level docs false d ++ next) ≡ b
@@ -120,16 +128,19 @@ module _ (c : Config) (gaps : AreGaps c) (x : Extensions) (level : ℕ) (docs : 
   pub leads_is : (d : Data) (next : Text) → IsValidFirst d → Ends next → opens_as_option (layout c x level docs false d ++ next) ≡ leads x d
   unfolding layout_within
   leads_is (raw_of t) next v e = raw_leads t next v e
-  leads_is (newtype_of name d) next v e = go x.unwrap_newtypes (leads_is d next v e) (named_no_option (c.struct_names || x.explicit_struct_names) name (layout c x level docs false d) next)
+  leads_is (newtype_of name d) next v e =
+      go x.unwrap_newtypes (leads_is d next v e) (named_no_option (c.struct_names || x.explicit_struct_names) name (layout c x level docs false d) next)
     where
       wrapped : Text
       wrapped = behind_name (c.struct_names || x.explicit_struct_names) false name (bracketed false (layout c x level docs false d))
 
-      go : (b : Bool) → opens_as_option (layout c x level docs false d ++ next) ≡ leads x d → opens_as_option (wrapped ++ next) ≡ false → opens_as_option (cond b (layout c x level docs false d) wrapped ++ next) ≡ (b && leads x d)
+      go : (b : Bool) → opens_as_option (layout c x level docs false d ++ next) ≡ leads x d → opens_as_option (wrapped ++ next) ≡ false
+          → opens_as_option (cond b (layout c x level docs false d) wrapped ++ next) ≡ (b && leads x d)
       go true h k = h
       go false h k = k
   leads_is the_none next v e = none_opens x implicit next e
-  leads_is (some_of d) next v e = opens_kept (some_of d) next (λ h. ap (λ t. opens_as_option (t ++ next)) (layout-some c x level docs implicit false 0 d ∙ kept c x level docs implicit d false 1 (keeps_same c x level docs d ∙ h)) ∙ some_opens x implicit (layout c x level docs false d) next) e
+  leads_is (some_of d) next v e = opens_kept (some_of d) next (λ h. ap (λ t. opens_as_option (t ++ next)) (layout-some c x level docs implicit false 0 d
+      ∙ kept c x level docs implicit d false 1 (keeps_same c x level docs d ∙ h)) ∙ some_opens x implicit (layout c x level docs false d) next) e
   leads_is (value_of t) next v e = opens_kept (value_of t) next (λ h. value_is_kept t next h e) e
   leads_is (bool_of a) next v e = opens_kept (bool_of a) next (λ h. absurd (cc)) e
   leads_is (int_of a b) next v e = opens_kept (int_of a b) next (λ h. absurd (cc)) e
@@ -163,8 +174,10 @@ module _ (c : Config) (gaps : AreGaps c) (x : Extensions) (level : ℕ) (docs : 
       let z = is_spacing c gaps (not c.separate_tuple_members) level in
       let t = layout c x l docs false d in
       let more = flat_map (λ t. codes "," ++ t) (led_by s.between s.between (item_texts c x l docs ds)) in
-      let shape : tuple_inside c x level docs (data_and d ds) ≡ s.first ++ (t ++ (more ++ s.last)) = ap (λ u. u ++ s.last) (append_assoc s.first t more) ∙ append_assoc s.first (t ++ more) s.last ∙ ap (λ u. s.first ++ u) (append_assoc t more s.last) in
-      ap opens_as_option shape ∙ ap (λ u. stands (codes "None") u || stands (codes "Some") u) (skip-closed z.first (t ++ (more ++ s.last))) ∙ leads_is c gaps x l docs implicit d (more ++ s.last) v (behind (led_by s.between s.between (item_texts c x l docs ds)) s.last z.last)
+      let shape : tuple_inside c x level docs (data_and d ds) ≡ s.first ++ (t ++ (more ++ s.last)) =
+      ap (λ u. u ++ s.last) (append_assoc s.first t more) ∙ append_assoc s.first (t ++ more) s.last ∙ ap (λ u. s.first ++ u) (append_assoc t more s.last) in
+      ap opens_as_option shape ∙ ap (λ u. stands (codes "None") u || stands (codes "Some") u) (skip-closed z.first (t ++ (more ++ s.last)))
+      ∙ leads_is c gaps x l docs implicit d (more ++ s.last) v (behind (led_by s.between s.between (item_texts c x l docs ds)) s.last z.last)
     where
       behind : (ts : List Text) (last : Text) → IsLast last → Ends (flat_map (λ t. codes "," ++ t) ts ++ last)
       behind [] last (inl e) = subst Ends (sym e) (refl, skip-end, refl)

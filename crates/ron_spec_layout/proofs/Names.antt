@@ -83,26 +83,34 @@ plain_spelled : (n next : Text) → is_plain_identifier n ≡ true → Behind ne
 plain_spelled [] next h k = absurd (cc)
 plain_spelled (c ∷ n) next h k =
     let e = and_parts (starts_name c) (list_all continues_name n) h in
-    let every = every_of continues_name n e.1 in
-    (ap not (plain_opens_no_literal (c ∷ n) next (first_continues c e.0, every) k), record { spelled = record { same = refl; every = (e.0, every); longest = k.no_more }; other = k.no_mark })
+    let every = every_of continues_name n e.1 in (
+      ap not (plain_opens_no_literal (c ∷ n) next (first_continues c e.0, every) k),
+      record { spelled = record { same = refl; every = (e.0, every); longest = k.no_more }; other = k.no_mark },
+    )
 
 raw_continues : (c : ℕ) → continues_name c ≡ true → in_raw_name c ≡ true
 raw_continues c h = or_right ((c == 46) || (c == 43) || (c == 45)) (continues_name c) h
 
 all_raw : (n : Text) → list_all continues_name n ≡ true → list_all in_raw_name n ≡ true
 all_raw [] h = refl
-all_raw (c ∷ n) h = let k = and_parts (continues_name c) (list_all continues_name n) h in and_from (in_raw_name c) (list_all in_raw_name n) (raw_continues c k.0) (all_raw n k.1)
+all_raw (c ∷ n) h = let k = and_parts (continues_name c) (list_all continues_name n) h in
+    and_from (in_raw_name c) (list_all in_raw_name n) (raw_continues c k.0) (all_raw n k.1)
 
 -- a name that is made as a plain identifier is can be written
 pub plain_is_name : (n : Text) → is_plain_identifier n ≡ true → is_name n ≡ true
 plain_is_name [] h = absurd (cc)
-plain_is_name (c ∷ n) h = let k = and_parts (starts_name c) (list_all continues_name n) h in and_from (in_raw_name c) (list_all in_raw_name n) (raw_continues c (first_continues c k.0)) (all_raw n k.1)
+plain_is_name (c ∷ n) h = let k = and_parts (starts_name c) (list_all continues_name n) h in
+    and_from (in_raw_name c) (list_all in_raw_name n) (raw_continues c (first_continues c k.0)) (all_raw n k.1)
 
 raw_spelled : (n next : Text) → is_name n ≡ true → Behind next → RawName (codes "r#" ++ n) next n
 raw_spelled [] next h k = absurd (cc)
 raw_spelled (c ∷ n) next h k =
     let every = every_of in_raw_name (c ∷ n) h in
-    record { rest = 35 ∷ c ∷ n; split = refl; spelled = record { rest = c ∷ n; split = refl; spelled = record { same = refl; every = (every.0, every.1); longest = k.raw_over } } }
+    record {
+      rest = 35 ∷ c ∷ n;
+      split = refl;
+      spelled = record { rest = c ∷ n; split = refl; spelled = record { same = refl; every = (every.0, every.1); longest = k.raw_over } };
+    }
 
 pub name_spelled : (n next : Text) → is_name n ≡ true → begins continues_word next ≡ false → Name (written_name n) next n
 unfolding is_plain_name

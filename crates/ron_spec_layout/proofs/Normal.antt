@@ -1,7 +1,9 @@
 -- A normal form is its own: for the law that layouts are read back.
 use Rattle.std.proofs.Common.{◌≡◌, Bool, true, false, cond, List, [], ◌∷◌, refl, sym, ap, ap₂, ◌∙◌}
 use Rattle.ron_spec_words.proofs.Values.{Each}
-use Rattle.ron_spec_grammar.specs.Data.{Data, bool_of, int_of, char_of, str_of, bytes_of, the_unit, the_none, some_of, unit_struct_of, list_of, tuple_of, tuple_struct_of, map_of, newtype_of, struct_of, unit_variant_of, newtype_variant_of, tuple_variant_of, struct_variant_of, value_of, Datas, no_datas, data_and, Pairs, no_pairs, pair_and, Fields, no_fields, field_and, raw_of}
+use Rattle.ron_spec_grammar.specs.Data.{Data, bool_of, int_of, char_of, str_of, bytes_of, the_unit, the_none, some_of, unit_struct_of, list_of, tuple_of}
+use Rattle.ron_spec_grammar.specs.Data.{tuple_struct_of, map_of, newtype_of, struct_of, unit_variant_of, newtype_variant_of, tuple_variant_of}
+use Rattle.ron_spec_grammar.specs.Data.{struct_variant_of, value_of, Datas, no_datas, data_and, Pairs, no_pairs, pair_and, Fields, no_fields, field_and, raw_of}
 use Rattle.ron_spec_grammar.specs.Equal.{equal_data, put, put_all, folded}
 use Rattle.ron_spec_grammar.proofs.Pairs.{ArePairs, folded_are}
 use Rattle.ron_spec_grammar.proofs.Values.Normals.{normal_twice}
@@ -68,7 +70,8 @@ append_none (pair_and k d ps) = ap (pair_and k d) (append_none ps)
 all-own : (ps qs : Pairs) → Apart (append ps qs) → put_all ps (pairs_list qs) ≡ append ps qs
 all-own ps no_pairs h = sym (append_none ps)
 all-own ps (pair_and k d qs) h =
-    ap (λ z. put_all z (pairs_list qs)) (put-new k d ps qs h) ∙ all-own (append ps (pair_and k d no_pairs)) qs (rw append_more at h) ∙ sym (append_more ps k d qs)
+    ap (λ z. put_all z (pairs_list qs)) (put-new k d ps qs h) ∙ all-own (append ps (pair_and k d no_pairs)) qs (rw append_more at h)
+    ∙ sym (append_more ps k d qs)
 
 -- ---- keys and values in normal form
 
@@ -80,10 +83,12 @@ module _ (suffixes : Bool) where
   pairs_normal no_pairs h = refl
   pairs_normal (pair_and k d ps) h = ap₂ (λ p more. p ∷ more) (ap₂ (λ a b. (a, b)) h.0 h.1) (pairs_normal ps h.2)
 
-  map_normal : (ps : Pairs) → Each (λ p. Normal p.0 × Normal p.1) (norm_pairs_with suffixes ps) → norm_with suffixes (map_of (folded (norm_pairs_with suffixes ps))) ≡ map_of (folded (norm_pairs_with suffixes ps))
+  map_normal : (ps : Pairs) → Each (λ p. Normal p.0 × Normal p.1) (norm_pairs_with suffixes ps)
+      → norm_with suffixes (map_of (folded (norm_pairs_with suffixes ps))) ≡ map_of (folded (norm_pairs_with suffixes ps))
   map_normal ps h =
       let r = folded (norm_pairs_with suffixes ps) in
-      ap (λ more. map_of (folded more)) (pairs_normal r (folded_are Normal Normal (norm_pairs_with suffixes ps) h)) ∙ ap map_of (all-own no_pairs r (all-apart no_pairs (norm_pairs_with suffixes ps) tt))
+      ap (λ more. map_of (folded more)) (pairs_normal r (folded_are Normal Normal (norm_pairs_with suffixes ps) h))
+      ∙ ap map_of (all-own no_pairs r (all-apart no_pairs (norm_pairs_with suffixes ps) tt))
 
   mutual
     pub normal : (d : Data) → norm_with suffixes (norm_with suffixes d) ≡ norm_with suffixes d

@@ -100,4 +100,5 @@ nones_are_read_back = read_back implicit (optional 1 ∷ optional 2 ∷ unit ∷
 
 newtype_is_read_back : (room : ℕ) × Document (with true true true true) (optional 1 ∷ newtype (codes "N") 2 ∷ int U8 ∷ []) 0 room (codes "5") (some_of wrapped)
 unfolding laying
-newtype_is_read_back = read_back (with true true true true) (optional 1 ∷ newtype (codes "N") 2 ∷ int U8 ∷ []) 0 (some_of wrapped) refl (1, refl, (2, refl, (refl, refl))) refl refl refl
+newtype_is_read_back = read_back (with true true true true) (optional 1 ∷ newtype (codes "N") 2 ∷ int U8 ∷ []) 0 (some_of wrapped) refl
+    (1, refl, (2, refl, (refl, refl))) refl refl refl

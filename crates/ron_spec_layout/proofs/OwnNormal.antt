@@ -26,7 +26,8 @@ mutual
   pub own : (t : Tree) → IsOrdered t → normal true t ≡ t
   own (tree.boolean b) o = refl
   own (tree.character c) o = refl
-  own (tree.mapping ps) o = let e = own_pairs ps o.1 in ap (λ es. tree.mapping (pairs_from es)) (put_ascending (normal_pairs true ps) (ascending ps e o)) ∙ ap tree.mapping e
+  own (tree.mapping ps) o = let e = own_pairs ps o.1 in
+      ap (λ es. tree.mapping (pairs_from es)) (put_ascending (normal_pairs true ps) (ascending ps e o)) ∙ ap tree.mapping e
   own (tree.number w n) o = refl
   own tree.none o = refl
   own (tree.some t) o = ap tree.some (own t o)
@@ -41,11 +42,13 @@ mutual
 
   own_pairs : (ps : tree.Pairs) → ArePairsOrdered ps → pairs_from (normal_pairs true ps) ≡ ps
   own_pairs tree.no_pairs o = refl
-  own_pairs (tree.pair_and k t ps) o = ap₂ (λ a b. tree.pair_and a b (pairs_from (normal_pairs true ps))) (own k o.0) (own t o.1) ∙ ap (tree.pair_and k t) (own_pairs ps o.2)
+  own_pairs (tree.pair_and k t ps) o =
+      ap₂ (λ a b. tree.pair_and a b (pairs_from (normal_pairs true ps))) (own k o.0) (own t o.1) ∙ ap (tree.pair_and k t) (own_pairs ps o.2)
 
 pub value_kept : IsValueKept
 value_kept c defaults schema root t suffixes explicit blank well o en =
-    let encodable : is_encodable (extensions_under defaults c).implicit_some (value_of t) ≡ true = subst (λ b. is_encodable b (value_of t) ≡ true) (sym explicit) en in
+    let encodable : is_encodable (extensions_under defaults c).implicit_some (value_of t) ≡ true =
+    subst (λ b. is_encodable b (value_of t) ≡ true) (sym explicit) en in
     let z = whole c defaults schema root (value_of t) (record { blank = blank; ends = λ e. absurd (cc) }) well o encodable refl in
     (ample (value_of t), subst (λ d. Document defaults schema root (ample (value_of t)) (full_layout defaults c (value_of t)) d) (go z.value z.form) z.document)
   where

@@ -1,5 +1,6 @@
 -- Characters, strings and bytes as they are written are spelled by the literals' languages: for `Places`, `Written` and `Values`.
-use Rattle.std.proofs.Common.{◌≡◌, ℕ, suc, nat_le, nat_lt, ◌==◌, Bool, true, false, ◌||◌, [], ◌∷◌, ◌++◌, flat_map, encode_utf8, Option, Some, None, inl, inr, refl, sym, ap, subst, arith, eqb-true, leb-true}
+use Rattle.std.proofs.Common.{◌≡◌, ℕ, suc, nat_le, nat_lt, ◌==◌, Bool, true, false, ◌||◌, [], ◌∷◌, ◌++◌, flat_map, encode_utf8, Option, Some, None, inl, inr}
+use Rattle.std.proofs.Common.{refl, sym, ap, subst, arith, eqb-true, leb-true}
 use Rattle.std.specs.List.{list_all}
 use Rattle.std.proofs.lemmas.Bool.{and_parts, or_parts, cond_both}
 use Rattle.std.proofs.lemmas.Str.{encode_ascii}
@@ -12,7 +13,8 @@ use Rattle.ron_spec_words.specs.Quoted.{Char, Pieces, StringPiece, itself, Strin
 use Rattle.ron_spec_words.proofs.Words.{First}
 use Rattle.ron_spec_words.proofs.Gaps.{skip-other}
 use Rattle.ron_spec_words.proofs.LiteralStarts.{first_char}
-use Rattle.ron_spec_words.proofs.LiteralsWritten.{pieces_in_row, piece_plain, plain_written, char_as_it_is, char_escaped, string_by_letter, string_by_number, bytes_by_letter, bytes_by_digits}
+use Rattle.ron_spec_words.proofs.LiteralsWritten.{pieces_in_row, piece_plain, plain_written, char_as_it_is, char_escaped, string_by_letter, string_by_number}
+use Rattle.ron_spec_words.proofs.LiteralsWritten.{bytes_by_letter, bytes_by_digits}
 use Rattle.ron_spec_words.proofs.TokenRuns.{every_of}
 use Rattle.ron_spec_words.proofs.Slices.{flat_map-itself}
 use Rattle.ron_base.specs.declared.escape.Quotes.TheVariants.{Both}
@@ -55,11 +57,17 @@ character_piece c next h = go (short_escape Both c) (has_escape c)
   where
     go : (o : Option ℕ) → HasEscape c o → StringPiece itself StringEscape (escaped_as c o) next (c ∷ [])
     go (Some letter) e = string_by_letter letter c next e
-    go None e = cond_both (is_hidden c) (numbered c) (c ∷ []) (λ t. StringPiece itself StringEscape t next (c ∷ [])) (λ _. string_by_number c next h) (λ _. piece_plain itself StringEscape c next e.0 e.1)
+    go None e = cond_both (is_hidden c) (numbered c) (c ∷ []) (λ t. StringPiece itself StringEscape t next (c ∷ [])) (λ _. string_by_number c next h)
+        (λ _. piece_plain itself StringEscape c next e.0 e.1)
 
 pub string_written : (t next : Text) → list_all scalar t ≡ true → String (written_string t) next t
 string_written t next h =
-    inl (record { rest = _; split = refl; spelled = subst (λ u. Pieces (StringPiece itself StringEscape) (flat_map (escaped_char Both) t ++ 34 ∷ []) next u) (flat_map-itself t) (pieces_in_row (StringPiece itself StringEscape) itself (escaped_char Both) scalar character_piece t next (every_of scalar t h)) })
+    inl (record {
+      rest = _;
+      split = refl;
+      spelled = subst (λ u. Pieces (StringPiece itself StringEscape) (flat_map (escaped_char Both) t ++ 34 ∷ []) next u) (flat_map-itself t)
+          (pieces_in_row (StringPiece itself StringEscape) itself (escaped_char Both) scalar character_piece t next (every_of scalar t h));
+    })
 
 -- ---- bytes
 
@@ -86,24 +94,33 @@ byte_piece b next h =
     plain e p =
         let no = or_parts (b == 34) (b == 92) e in
         let small = leb-true b 126 (and_parts (nat_le 32 b) (nat_le b 126) p).1 in
-        subst (λ u. StringPiece encode_utf8 ByteStringEscape (b ∷ []) next u) (encode_ascii b (omega (arith, small))) (piece_plain encode_utf8 ByteStringEscape b next no.0 no.1)
+        subst (λ u. StringPiece encode_utf8 ByteStringEscape (b ∷ []) next u) (encode_ascii b (omega (arith, small)))
+        (piece_plain encode_utf8 ByteStringEscape b next no.0 no.1)
 
 pub bytes_written : (bs next : Text) → list_all is_byte bs ≡ true → ByteString (written_bytes bs) next bs
 bytes_written bs next h = record {
   rest = _;
   split = refl;
-  spelled = inl (record { rest = _; split = refl; spelled = subst (λ u. Pieces (StringPiece encode_utf8 ByteStringEscape) (flat_map escaped_byte bs ++ 34 ∷ []) next u) (flat_map-itself bs) (pieces_in_row (StringPiece encode_utf8 ByteStringEscape) itself escaped_byte is_byte byte_piece bs next (every_of is_byte bs h)) });
+  spelled = inl (record {
+    rest = _;
+    split = refl;
+    spelled = subst (λ u. Pieces (StringPiece encode_utf8 ByteStringEscape) (flat_map escaped_byte bs ++ 34 ∷ []) next u) (flat_map-itself bs)
+        (pieces_in_row (StringPiece encode_utf8 ByteStringEscape) itself escaped_byte is_byte byte_piece bs next (every_of is_byte bs h));
+  });
 }
 
 -- ---- characters
 
 pub char_written : (c : ℕ) (next : Text) → Char (written_char c) next c
-char_written c next = cond_both ((c == 92) || (c == 39)) _ _ (λ t. Char t next c) (λ e. char_escaped (92 ∷ c ∷ []) c next (inr (inr (plain_written c c (39 ∷ next) (rw (or_turned (c == 92) (c == 39) (c == 34) e) refl))))) (λ e. char_as_it_is c next (or_parts (c == 92) (c == 39) e).0)
+char_written c next = cond_both ((c == 92) || (c == 39)) _ _ (λ t. Char t next c)
+    (λ e. char_escaped (92 ∷ c ∷ []) c next (inr (inr (plain_written c c (39 ∷ next) (rw (or_turned (c == 92) (c == 39) (c == 34) e) refl)))))
+    (λ e. char_as_it_is c next (or_parts (c == 92) (c == 39) e).0)
 
 -- ---- literals stand by themselves
 
 -- a word that no gap begins
-pub word_stands : {A : Type 0} {L : Lang A} {text next : Text} {a : A} → First (λ s. skip s ≡ s) L → L text next a → Ends next → Stands (λ before. L) text next a
+pub word_stands : {A : Type 0} {L : Lang A} {text next : Text} {a : A} → First (λ s. skip s ≡ s) L → L text next a → Ends next
+    → Stands (λ before. L) text next a
 word_stands {text = text} {next = next} {a = a} solid h e = at_once (whole (solid.holds text next a h) e.1 h)
 
 pub char_literal : (c : ℕ) (next : Text) → Ends next → Stands (λ before. Char) (written_char c) next c

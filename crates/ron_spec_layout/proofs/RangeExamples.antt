@@ -28,7 +28,8 @@ options : range_text false (two (codes "Range") (codes "start") (codes "end") (s
 unfolding digits
 options = refl
 
-inclusive : range_text false (two (codes "RangeInclusive") (codes "start") (codes "end") (value_of (tree.number I8 (negsuc 0))) (int_of U8 (pos 5))) ≡ Some (codes "-1..=5")
+inclusive : range_text false (two (codes "RangeInclusive") (codes "start") (codes "end") (value_of (tree.number I8 (negsuc 0))) (int_of U8 (pos 5)))
+    ≡ Some (codes "-1..=5")
 unfolding digits
 inclusive = refl
 

@@ -1,5 +1,6 @@
 -- Compact ranges as they are written stand for what they are made of.
-use Rattle.std.proofs.Common.{◌≡◌, suc, nat_lt, Bool, true, false, not, ℤ, pos, negsuc, [], ◌∷◌, ◌++◌, length, codes, Option, Some, None, inl, inr, refl, ap, ◌∙◌, arith, append_assoc}
+use Rattle.std.proofs.Common.{◌≡◌, suc, nat_lt, Bool, true, false, not, ℤ, pos, negsuc, [], ◌∷◌, ◌++◌, length, codes, Option, Some, None, inl, inr, refl, ap}
+use Rattle.std.proofs.Common.{◌∙◌, arith, append_assoc}
 use Rattle.std.proofs.lemmas.Bool.{leb-true, le-ltb}
 use Rattle.std.specs.Char.{is_ascii_digit}
 use Rattle.std.specs.Fmt.{signed_decimal, decimal}
@@ -23,7 +24,8 @@ use Rattle.ron_spec_layout.specs.Stand.{Ends, Stands}
 use Rattle.ron_spec_layout.specs.Ranges.{dots_text}
 use Rattle.ron_spec_layout.proofs.Stands.{at_once, whole}
 use Rattle.ron_spec_grammar.proofs.Raw.Points.{on_ends, open_there}
-use Rattle.ron_spec_layout.proofs.Integers.{plain_numeral, number_spelled, ends_name, no_float, past_digits, decimal_first, decimal_every, before_dots-shorter, fits_short}
+use Rattle.ron_spec_layout.proofs.Integers.{plain_numeral, number_spelled, ends_name, no_float, past_digits, decimal_first, decimal_every, before_dots-shorter}
+use Rattle.ron_spec_layout.proofs.Integers.{fits_short}
 
 -- ---- a number before range, and before what may follow a value
 
@@ -35,9 +37,11 @@ digits_cut : (ds u : Text) → Every is_ascii_digit ds → before_dots (run_of i
 digits_cut [] u h = refl
 digits_cut (c ∷ ds) u h = let k : in_float c ≡ true = rw h.0 refl in rw (k, apart is_ascii_digit 46 c refl h.0) (ap (λ t. c ∷ t) (digits_cut ds u h.1))
 
-digits_dots : (ds u : Text) → Every is_ascii_digit ds → nat_lt (length (run_of in_number (ds ++ 46 ∷ 46 ∷ u))) (length (before_dots (run_of in_float (ds ++ 46 ∷ 46 ∷ u)))) ≡ false
+digits_dots : (ds u : Text) → Every is_ascii_digit ds
+    → nat_lt (length (run_of in_number (ds ++ 46 ∷ 46 ∷ u))) (length (before_dots (run_of in_float (ds ++ 46 ∷ 46 ∷ u)))) ≡ false
 digits_dots ds u h =
-    let as_number : run_of in_number (ds ++ 46 ∷ 46 ∷ u) ≡ ds = run-append in_number ds (46 ∷ 46 ∷ u) (every-weaker is_ascii_digit in_number (λ c k. rw k refl) ds h) refl in
+    let as_number : run_of in_number (ds ++ 46 ∷ 46 ∷ u) ≡ ds =
+    run-append in_number ds (46 ∷ 46 ∷ u) (every-weaker is_ascii_digit in_number (λ c k. rw k refl) ds h) refl in
     rw (as_number, digits_cut ds u h) (le-ltb (length ds) (length ds) (omega arith))
 
 no_float_dots : (n : ℤ) (u : Text) → is_float (signed_decimal n ++ 46 ∷ 46 ∷ u) ≡ false
@@ -56,12 +60,26 @@ before_end w n next h e = (ap not (no_float n next e), inr (number_spelled w n n
 
 -- ---- range
 
-dots_to : (a : Option Numeral) (closed : Bool) (t next : Text) (b : Numeral) → UntypedInteger t next b → Points a (dots_text closed ++ t) next (range a closed (Some b))
-dots_to a true t next b z = record { rest = 46 ∷ 61 ∷ t; split = refl; spelled = record { rest = 61 ∷ t; split = refl; spelled = inl (record { rest = t; split = refl; spelled = record { value = b; spelled = z; meant = refl } }) } }
-dots_to a false t next b z = record { rest = 46 ∷ t; split = refl; spelled = record { rest = t; split = refl; spelled = inr (inl (record { value = b; spelled = z; meant = refl })) } }
+dots_to : (a : Option Numeral) (closed : Bool) (t next : Text) (b : Numeral) → UntypedInteger t next b
+    → Points a (dots_text closed ++ t) next (range a closed (Some b))
+dots_to a true t next b z = record {
+  rest = 46 ∷ 61 ∷ t;
+  split = refl;
+  spelled =
+      record { rest = 61 ∷ t; split = refl; spelled = inl (record { rest = t; split = refl; spelled = record { value = b; spelled = z; meant = refl } }) };
+}
+dots_to a false t next b z = record {
+  rest = 46 ∷ t;
+  split = refl;
+  spelled = record { rest = t; split = refl; spelled = inr (inl (record { value = b; spelled = z; meant = refl })) };
+}
 
 dots_open : (a : Option Numeral) (next : Text) → Ends next → Points a (codes "..") next (range a false None)
-dots_open a next e = record { rest = 46 ∷ []; split = refl; spelled = record { rest = []; split = refl; spelled = inr (inr (open_there next (on_ends next (follows next e)), (refl, refl))) } }
+dots_open a next e = record {
+  rest = 46 ∷ [];
+  split = refl;
+  spelled = record { rest = []; split = refl; spelled = inr (inr (open_there next (on_ends next (follows next e)), (refl, refl))) };
+}
 
 -- a text that spells a range stands for it
 stands_span : (t next : Text) (s : Interval) → Ends next → NumberOrRange t next s → Stands (λ before. NumberOrRange) t next s
@@ -129,11 +147,14 @@ word_begins U128 next = (refl, refl)
 abbrev pub own_numeral : Width → ℤ → Numeral
 own_numeral w n = record { minus = (plain_numeral n).minus; magnitude = (plain_numeral n).magnitude; suffix = Some (suffix_named w) }
 
-digits_word : (w : Width) (ds next : Text) → Every is_ascii_digit ds → nat_lt (length (run_of in_number (ds ++ (width_word w ++ next)))) (length (before_dots (run_of in_float (ds ++ (width_word w ++ next))))) ≡ false
+digits_word : (w : Width) (ds next : Text) → Every is_ascii_digit ds
+    → nat_lt (length (run_of in_number (ds ++ (width_word w ++ next)))) (length (before_dots (run_of in_float (ds ++ (width_word w ++ next))))) ≡ false
 digits_word w ds next h =
     let k = word_begins w next in
-    let as_number : run_of in_number (ds ++ (width_word w ++ next)) ≡ ds = run-append in_number ds (width_word w ++ next) (every-weaker is_ascii_digit in_number (λ c k. rw k refl) ds h) k.0 in
-    let as_float : run_of in_float (ds ++ (width_word w ++ next)) ≡ ds = run-append in_float ds (width_word w ++ next) (every-weaker is_ascii_digit in_float (λ c k. rw k refl) ds h) k.1 in
+    let as_number : run_of in_number (ds ++ (width_word w ++ next)) ≡ ds =
+    run-append in_number ds (width_word w ++ next) (every-weaker is_ascii_digit in_number (λ c k. rw k refl) ds h) k.0 in
+    let as_float : run_of in_float (ds ++ (width_word w ++ next)) ≡ ds =
+    run-append in_float ds (width_word w ++ next) (every-weaker is_ascii_digit in_float (λ c k. rw k refl) ds h) k.1 in
     rw (as_number, as_float) (shorter ds)
   where
     shorter : (ds : Text) → nat_lt (length ds) (length (before_dots ds)) ≡ false
@@ -144,10 +165,12 @@ digits_word w ds next h =
         go false k = refl
 
 own_no_float : (w : Width) (n : ℤ) (next : Text) → is_float ((signed_decimal n ++ width_word w) ++ next) ≡ false
-own_no_float w (pos n) next = rw (append_assoc (decimal n) (width_word w) next, past_digits (decimal n) (width_word w ++ next) (decimal_first n)) (digits_word w (decimal n) next (decimal_every n))
+own_no_float w (pos n) next = rw (append_assoc (decimal n) (width_word w) next, past_digits (decimal n) (width_word w ++ next) (decimal_first n))
+    (digits_word w (decimal n) next (decimal_every n))
 own_no_float w (negsuc n) next = rw (append_assoc (decimal (suc n)) (width_word w) next) (digits_word w (decimal (suc n)) next (decimal_every (suc n)))
 
-own_spelled : (w : Width) (n : ℤ) (next : Text) → fits w n ≡ true → begins continues_name next ≡ false → Number (signed_decimal n ++ width_word w) next (own_numeral w n)
+own_spelled : (w : Width) (n : ℤ) (next : Text) → fits w n ≡ true → begins continues_name next ≡ false
+    → Number (signed_decimal n ++ width_word w) next (own_numeral w n)
 own_spelled w (pos n) next h e = let k = number_written false n (Some (suffix_named w)) next (fits_short w (pos n) h) e in rw (word_is w) at k
 own_spelled w (negsuc n) next h e = let k = number_written true (suc n) (Some (suffix_named w)) next (fits_short w (negsuc n) h) e in rw (word_is w) at k
 
@@ -160,17 +183,27 @@ own_bounded w n h = record {
 -- ---- ranges
 
 module _ (next : Text) (e : Ends next) where
-  pub two_stand : (p q : Text) (m k : Numeral) (closed : Bool) → Bounded p m → Bounded q k → Stands (λ before. NumberOrRange) (p ++ (dots_text closed ++ q)) next (range (Some m) closed (Some k))
-  two_stand p q m k closed h l = stands_span (p ++ (dots_text closed ++ q)) next _ e (inr (record { value = m; left = p; right = dots_text closed ++ q; split = refl; first = first closed; second = inl (dots_to (Some m) closed q next k (l.alone next e)) }))
+  pub two_stand : (p q : Text) (m k : Numeral) (closed : Bool) → Bounded p m → Bounded q k
+      → Stands (λ before. NumberOrRange) (p ++ (dots_text closed ++ q)) next (range (Some m) closed (Some k))
+  two_stand p q m k closed h l = stands_span (p ++ (dots_text closed ++ q)) next _ e (inr (record {
+    value = m;
+    left = p;
+    right = dots_text closed ++ q;
+    split = refl;
+    first = first closed;
+    second = inl (dots_to (Some m) closed q next k (l.alone next e));
+  }))
     where
       first : (closed : Bool) → UntypedInteger p ((dots_text closed ++ q) ++ next) m
       first true = h.before (61 ∷ (q ++ next))
       first false = h.before (q ++ next)
 
   pub from_stands : (p : Text) (m : Numeral) → Bounded p m → Stands (λ before. NumberOrRange) (p ++ codes "..") next (range (Some m) false None)
-  from_stands p m h = stands_span (p ++ codes "..") next _ e (inr (record { value = m; left = p; right = codes ".."; split = refl; first = h.before next; second = inl (dots_open (Some m) next e) }))
+  from_stands p m h = stands_span (p ++ codes "..") next _ e
+      (inr (record { value = m; left = p; right = codes ".."; split = refl; first = h.before next; second = inl (dots_open (Some m) next e) }))
 
-  pub to_stands : (q : Text) (k : Numeral) (closed : Bool) → Bounded q k → Stands (λ before. NumberOrRange) (dots_text closed ++ q) next (range None closed (Some k))
+  pub to_stands : (q : Text) (k : Numeral) (closed : Bool) → Bounded q k
+      → Stands (λ before. NumberOrRange) (dots_text closed ++ q) next (range None closed (Some k))
   to_stands q k closed h = stands_span (dots_text closed ++ q) next _ e (inl (dots_to None closed q next k (h.alone next e)))
 
   pub full_stands : Stands (λ before. NumberOrRange) (codes "..") next (range None false None)

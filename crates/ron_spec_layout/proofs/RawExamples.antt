@@ -14,7 +14,8 @@ in_list : plain (with false false false) false (list_of (data_and (raw_of (codes
 unfolding values laying
 in_list = refl
 
-in_list_back : back no_config (with false false false) 0 [] (list_of (data_and (raw_of (codes "5 // c\n")) no_datas)) ≡ list_of (data_and (raw_of (codes "5 // c\n")) no_datas)
+in_list_back : back no_config (with false false false) 0 [] (list_of (data_and (raw_of (codes "5 // c\n")) no_datas))
+    ≡ list_of (data_and (raw_of (codes "5 // c\n")) no_datas)
 unfolding values laying
 in_list_back = refl
 

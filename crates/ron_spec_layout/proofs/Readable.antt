@@ -4,7 +4,9 @@ use Rattle.std.proofs.Math.Bool.{and-false}
 use Rattle.std.specs.Option.{is_none}
 use Rattle.ron_spec_grammar.specs.Schema.{Shape, is_well_formed, OfShape}
 use Rattle.ron_spec_grammar.specs.Document.{Document}
-use Rattle.ron_spec_grammar.specs.Data.{Data, bool_of, int_of, char_of, str_of, bytes_of, the_unit, the_none, some_of, unit_struct_of, list_of, tuple_of, tuple_struct_of, map_of, newtype_of, struct_of, unit_variant_of, newtype_variant_of, tuple_variant_of, struct_variant_of, value_of, Datas, no_datas, data_and, Pairs, no_pairs, pair_and, Fields, no_fields, field_and, raw_of}
+use Rattle.ron_spec_grammar.specs.Data.{Data, bool_of, int_of, char_of, str_of, bytes_of, the_unit, the_none, some_of, unit_struct_of, list_of, tuple_of}
+use Rattle.ron_spec_grammar.specs.Data.{tuple_struct_of, map_of, newtype_of, struct_of, unit_variant_of, newtype_variant_of, tuple_variant_of}
+use Rattle.ron_spec_grammar.specs.Data.{struct_variant_of, value_of, Datas, no_datas, data_and, Pairs, no_pairs, pair_and, Fields, no_fields, field_and, raw_of}
 use Rattle.ron_spec_grammar.specs.Rule.{Extensions}
 use Rattle.ron_spec_layout.specs.Name.{names_ok}
 use Rattle.ron_spec_layout.specs.Encodable.{is_encodable}
@@ -50,16 +52,19 @@ mutual
 
   no_docs_on : (c : Config) (ps : Pairs) → pairs_documented c no_docs ps ≡ false
   no_docs_on c no_pairs = refl
-  no_docs_on c (pair_and k d ps) = neither (is_documented c no_docs k) (is_documented c no_docs d || pairs_documented c no_docs ps) (no_doc c k) (neither (is_documented c no_docs d) (pairs_documented c no_docs ps) (no_doc c d) (no_docs_on c ps))
+  no_docs_on c (pair_and k d ps) = neither (is_documented c no_docs k) (is_documented c no_docs d || pairs_documented c no_docs ps) (no_doc c k)
+      (neither (is_documented c no_docs d) (pairs_documented c no_docs ps) (no_doc c d) (no_docs_on c ps))
 
   no_docs_at : (c : Config) (ds : Fields) → fields_documented c no_docs ds ≡ false
   no_docs_at c no_fields = refl
-  no_docs_at c (field_and name d ds) = neither (not c.compact_structs && false) (is_documented c no_docs d || fields_documented c no_docs ds) (and-false (not c.compact_structs)) (neither (is_documented c no_docs d) (fields_documented c no_docs ds) (no_doc c d) (no_docs_at c ds))
+  no_docs_at c (field_and name d ds) = neither (not c.compact_structs && false) (is_documented c no_docs d || fields_documented c no_docs ds)
+      (and-false (not c.compact_structs)) (neither (is_documented c no_docs d) (fields_documented c no_docs ds) (no_doc c d) (no_docs_at c ds))
 
 pub readable : (d : Data) → IsReadable no_config no_docs d
 readable d = record { blank = refl; ends = λ e. absurd (let no : false ≡ true = sym (no_doc no_config d) ∙ e in cc) }
 
 -- and is read back as its normal form, where no raw text stands in it
-pub read_back : (x : Extensions) (schema : List Shape) (root : ℕ) (d : Data) → is_well_formed schema root ≡ true → OfShape schema root d → is_encodable (extensions_under x no_config).implicit_some d ≡ true → names_ok d ≡ true → is_rawless d ≡ true
+pub read_back : (x : Extensions) (schema : List Shape) (root : ℕ) (d : Data) → is_well_formed schema root ≡ true → OfShape schema root d
+    → is_encodable (extensions_under x no_config).implicit_some d ≡ true → names_ok d ≡ true → is_rawless d ≡ true
     → (room : ℕ) × Document x schema root room (full_layout x no_config d) (norm_with false d)
 read_back x schema root d well o en ok rawless = normal_read_back no_config x schema root d (readable d) well o en ok rawless

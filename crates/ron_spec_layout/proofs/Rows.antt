@@ -38,7 +38,8 @@ module _ {A : Type 0} (data_of : A → Data) where
   item_refused-from [] = refl
   item_refused-from (e ∷ es) = ap (option_or (first_refused (data_of e))) (item_refused-from es)
 
-  pub item_encodable-from : (implicit : Bool) (es : List A) → items_encodable implicit (datas (map data_of es)) ≡ list_all (λ e. is_encodable implicit (data_of e)) es
+  pub item_encodable-from : (implicit : Bool) (es : List A)
+      → items_encodable implicit (datas (map data_of es)) ≡ list_all (λ e. is_encodable implicit (data_of e)) es
   item_encodable-from implicit [] = refl
   item_encodable-from implicit (e ∷ es) = ap (λ b. is_encodable implicit (data_of e) && b) (item_encodable-from implicit es)
 
@@ -55,11 +56,14 @@ module _ {A : Type 0} (key data_of : A → Data) where
 
   pub pair_refused-from : (es : List A) → first_refused_in_pairs (pairs_from es) ≡ first_name (λ e. pair_refused (key e) (data_of e)) es
   pair_refused-from [] = refl
-  pair_refused-from (e ∷ es) = rw (pair_refused-from es) (or_sides (first_refused (key e)) (first_refused (data_of e)) (first_name (λ e. pair_refused (key e) (data_of e)) es))
+  pair_refused-from (e ∷ es) =
+      rw (pair_refused-from es) (or_sides (first_refused (key e)) (first_refused (data_of e)) (first_name (λ e. pair_refused (key e) (data_of e)) es))
 
-  pub pair_encodable-from : (implicit : Bool) (es : List A) → pairs_encodable implicit (pairs_from es) ≡ list_all (λ e. pair_encodable implicit (key e) (data_of e)) es
+  pub pair_encodable-from : (implicit : Bool) (es : List A)
+      → pairs_encodable implicit (pairs_from es) ≡ list_all (λ e. pair_encodable implicit (key e) (data_of e)) es
   pair_encodable-from implicit [] = refl
-  pair_encodable-from implicit (e ∷ es) = rw (pair_encodable-from implicit es) (and_sides (is_encodable implicit (key e)) (is_encodable implicit (data_of e)) (list_all (λ e. pair_encodable implicit (key e) (data_of e)) es))
+  pair_encodable-from implicit (e ∷ es) = rw (pair_encodable-from implicit es)
+      (and_sides (is_encodable implicit (key e)) (is_encodable implicit (data_of e)) (list_all (λ e. pair_encodable implicit (key e) (data_of e)) es))
 
 module _ (c : Config) (x : Extensions) (level : ℕ) (docs : Docs) where
   -- a key, `:` and its value
@@ -93,10 +97,12 @@ module _ (c : Config) {A : Type 0} (data_of : A → Data) where
   items_depth-from [] = refl
   items_depth-from (e ∷ es) = omega (arith, items_depth-from es)
 
-  pub pairs_depth-from : (key : A → Data) (es : List A) → pairs_writer_depth c (pairs_from key data_of es) ≡ deepest (λ e. max (1 + writer_depth c (key e)) (1 + writer_depth c (data_of e))) es
+  pub pairs_depth-from : (key : A → Data) (es : List A)
+      → pairs_writer_depth c (pairs_from key data_of es) ≡ deepest (λ e. max (1 + writer_depth c (key e)) (1 + writer_depth c (data_of e))) es
   pairs_depth-from key [] = refl
   pairs_depth-from key (e ∷ es) = omega (arith, pairs_depth-from key es)
 
-  pub fields_depth-from : (name : A → Text) (es : List A) → fields_writer_depth c (fields_from name data_of es) ≡ deepest (λ e. 1 + writer_depth c (data_of e)) es
+  pub fields_depth-from : (name : A → Text) (es : List A)
+      → fields_writer_depth c (fields_from name data_of es) ≡ deepest (λ e. 1 + writer_depth c (data_of e)) es
   fields_depth-from name [] = refl
   fields_depth-from name (e ∷ es) = omega (arith, fields_depth-from name es)

@@ -3,7 +3,8 @@ use Rattle.std.proofs.Common.{◌≡◌, ℕ, zero, suc, Bool, true, false, List
 use Rattle.unicode_ident.proofs.Computing.{unicode_ident}
 use Rattle.ron_spec_words.specs.Characters.{Text}
 use Rattle.ron_value_number.specs.declared.width.Width.TheVariants.{U8}
-use Rattle.ron_spec_grammar.specs.Data.{Data, Datas, bool_of, int_of, the_unit, unit_struct_of, list_of, tuple_of, tuple_struct_of, unit_variant_of, map_of, no_datas, data_and, Pairs, no_pairs, pair_and, struct_of, no_fields, field_and}
+use Rattle.ron_spec_grammar.specs.Data.{Data, Datas, bool_of, int_of, the_unit, unit_struct_of, list_of, tuple_of, tuple_struct_of, unit_variant_of, map_of}
+use Rattle.ron_spec_grammar.specs.Data.{no_datas, data_and, Pairs, no_pairs, pair_and, struct_of, no_fields, field_and}
 use Rattle.ron_spec_grammar.specs.Equal.{equal_data}
 use Rattle.ron_spec_grammar.specs.Schema.{Shape, bool, int, unit_struct, seq, tuple_struct, map, struct, only, field}
 use Rattle.ron_spec_grammar.specs.Rule.{Extensions}
@@ -92,9 +93,11 @@ bare_without_its_name = refl
 abbrev tuple_structs : List Shape
 tuple_structs = seq 1 ∷ tuple_struct (codes "Pair") (2 ∷ 3 ∷ []) ∷ int U8 ∷ bool ∷ []
 
-list_is_read_back : (room : ℕ) × Document named tuple_structs 0 room (codes "[Pair(1,true)]") (list_of (data_and (tuple_struct_of (codes "Pair") pair) no_datas))
+list_is_read_back : (room : ℕ)
+    × Document named tuple_structs 0 room (codes "[Pair(1,true)]") (list_of (data_and (tuple_struct_of (codes "Pair") pair) no_datas))
 unfolding laying
-list_is_read_back = read_back named tuple_structs 0 (list_of (data_and (tuple_struct_of (codes "Pair") pair) no_datas)) refl (1, refl, ((2 ∷ 3 ∷ [], refl, ((refl, refl), (refl, tt))), tt)) refl refl refl
+list_is_read_back = read_back named tuple_structs 0 (list_of (data_and (tuple_struct_of (codes "Pair") pair) no_datas)) refl
+    (1, refl, ((2 ∷ 3 ∷ [], refl, ((refl, refl), (refl, tt))), tt)) refl refl refl
 
 -- ---- maps
 
@@ -120,7 +123,8 @@ folded_once = refl
 
 twice_is_read_back : (room : ℕ) × Document none (map 1 2 ∷ int U8 ∷ bool ∷ []) 0 room (codes "{1:true,2:false,1:false}") once
 unfolding laying equal_data
-twice_is_read_back = read_back none (map 1 2 ∷ int U8 ∷ bool ∷ []) 0 twice refl (1, 2, refl, ((refl, refl), refl, ((refl, refl), refl, ((refl, refl), refl, tt)))) refl refl refl
+twice_is_read_back =
+    read_back none (map 1 2 ∷ int U8 ∷ bool ∷ []) 0 twice refl (1, 2, refl, ((refl, refl), refl, ((refl, refl), refl, ((refl, refl), refl, tt)))) refl refl refl
 
 -- ---- structs
 
@@ -174,6 +178,7 @@ no_items_written : written (list_of no_datas) ≡ codes "[]"
 unfolding laying
 no_items_written = refl
 
-letters : written (tuple_of (data_and (unit_variant_of (codes "E") (codes "Äöß")) (data_and (unit_variant_of (codes "F") (codes "你好世界")) no_datas))) ≡ codes "(Äöß,你好世界)"
+letters : written (tuple_of (data_and (unit_variant_of (codes "E") (codes "Äöß")) (data_and (unit_variant_of (codes "F") (codes "你好世界")) no_datas)))
+    ≡ codes "(Äöß,你好世界)"
 unfolding laying
 letters = refl

@@ -21,19 +21,29 @@ may_follow_ends true next f = rw f.1 (ends_delimiter 41 f.0 refl refl)
 
 -- ---- the same text for another language
 
-pub stands_as : {A B : Type 0} {L : Text → Lang A} {M : Text → Lang B} {text next : Text} {a : A} (b : B) → Stands L text next a → ((before t n : Text) → L before t n a → M before t n b) → Stands M text next b
+pub stands_as : {A B : Type 0} {L : Text → Lang A} {M : Text → Lang B} {text next : Text} {a : A} (b : B) → Stands L text next a
+    → ((before t n : Text) → L before t n a → M before t n b) → Stands M text next b
 stands_as b h f = record {
   before = h.before;
   text_from = h.text_from;
   split = h.split;
   is_before = h.is_before;
-  from = record { stretch = h.from.stretch; after = h.from.after; split = h.from.split; solid = h.from.solid; spelled = f h.before h.from.stretch (h.from.after ++ _) h.from.spelled; is_after = h.from.is_after };
+  from = record {
+    stretch = h.from.stretch;
+    after = h.from.after;
+    split = h.from.split;
+    solid = h.from.solid;
+    spelled = f h.before h.from.stretch (h.from.after ++ _) h.from.spelled;
+    is_after = h.from.is_after;
+  };
 }
 
-pub stands_means : {A B : Type 0} {L : Text → Lang A} {text next : Text} {a : A} (b : B) (f : A → Option B) → f a ≡ Some b → Stands L text next a → Stands (λ before. Means (L before) f) text next b
+pub stands_means : {A B : Type 0} {L : Text → Lang A} {text next : Text} {a : A} (b : B) (f : A → Option B) → f a ≡ Some b → Stands L text next a
+    → Stands (λ before. Means (L before) f) text next b
 stands_means b f e h = stands_as b h (λ before t n z. record { value = _; spelled = z; meant = e })
 
-pub stands_needs : {A : Type 0} {L : Text → Lang A} {text next : Text} {a : A} {k room : ℕ} → k ≤ room → Stands L text next a → Stands (λ before. Needs k room (L before)) text next a
+pub stands_needs : {A : Type 0} {L : Text → Lang A} {text next : Text} {a : A} {k room : ℕ} → k ≤ room → Stands L text next a
+    → Stands (λ before. Needs k room (L before)) text next a
 stands_needs le h = stands_as _ h (λ before t n z. (le, z))
 
 -- no gap before it
@@ -41,7 +51,8 @@ pub at_once : {A : Type 0} {L : Text → Lang A} {text next : Text} {a : A} → 
 at_once h = record { before = []; text_from = _; split = refl; is_before = none; from = h }
 
 -- and none behind it
-pub whole : {A : Type 0} {L : Lang A} {text next : Text} {a : A} → skip (text ++ next) ≡ text ++ next → skip next ≡ next → L text next a → StandsFirst L text next a
+pub whole : {A : Type 0} {L : Lang A} {text next : Text} {a : A} → skip (text ++ next) ≡ text ++ next → skip next ≡ next → L text next a
+    → StandsFirst L text next a
 whole s n h = record { stretch = _; after = []; split = sym (append-nil _); solid = s; spelled = h; is_after = record { is_gap = none; longest = n } }
 
 -- ---- one and then the other
@@ -109,7 +120,8 @@ module _ {A B : Type 0} {L : Lang A} {M : A → Text → Lang B} (s t next : Tex
       gap_at e z = rw (← e) z
 
 -- likewise where a gap stands before the first
-pub stands_then : {A B : Type 0} {L : Text → Lang A} {M : A → Text → Lang B} (s t next : Text) {a : A} {b : B} → Stands L s (t ++ next) a → ((gap : Text) → StandsFirst (M a gap) t next b) → Stands (λ before. Then (L before) M) (s ++ t) next b
+pub stands_then : {A B : Type 0} {L : Text → Lang A} {M : A → Text → Lang B} (s t next : Text) {a : A} {b : B} → Stands L s (t ++ next) a
+    → ((gap : Text) → StandsFirst (M a gap) t next b) → Stands (λ before. Then (L before) M) (s ++ t) next b
 stands_then s t next h k = record {
   before = h.before;
   text_from = h.text_from ++ t;
@@ -118,13 +130,15 @@ stands_then s t next h k = record {
   from = then_first h.text_from t next _ h.from k;
 }
 
-pub mark_then : {B : Type 0} {M : Text → Lang B} (c : ℕ) (t next : Text) {b : B} → skip (c ∷ (t ++ next)) ≡ c ∷ (t ++ next) → Stands M t next b → StandsFirst (Then (Mark c done) (λ _ gap. M gap)) (c ∷ t) next b
+pub mark_then : {B : Type 0} {M : Text → Lang B} (c : ℕ) (t next : Text) {b : B} → skip (c ∷ (t ++ next)) ≡ c ∷ (t ++ next) → Stands M t next b
+    → StandsFirst (Then (Mark c done) (λ _ gap. M gap)) (c ∷ t) next b
 mark_then c t next s h = then_stands (c ∷ []) t next done (refl, refl) s h
 
 -- ---- brackets and commas
 
 -- between brackets
-pub group : {A : Type 0} {L : Text → Lang A} (o c : ℕ) (t next : Text) {a : A} → ((s : Text) → skip (o ∷ s) ≡ o ∷ s) → ((s : Text) → skip (c ∷ s) ≡ c ∷ s) → skip next ≡ next → Stands L t (c ∷ next) a → StandsFirst (Group o c L) (o ∷ (t ++ (c ∷ []))) next a
+pub group : {A : Type 0} {L : Text → Lang A} (o c : ℕ) (t next : Text) {a : A} → ((s : Text) → skip (o ∷ s) ≡ o ∷ s) → ((s : Text) → skip (c ∷ s) ≡ c ∷ s)
+    → skip next ≡ next → Stands L t (c ∷ next) a → StandsFirst (Group o c L) (o ∷ (t ++ (c ∷ []))) next a
 group o c t next so sc n h = mark_then o (t ++ (c ∷ [])) next (so _) (stands_then t (c ∷ []) next h (λ _. whole (sc next) n (refl, refl)))
 
 -- perhaps the one comma behind it: here none
@@ -132,9 +146,20 @@ pub comma_stands : {A : Type 0} {L : Text → Lang A} (t rest : Text) {a : A} �
 comma_stands t rest h = record { before = h.before; text_from = h.text_from; split = h.split; is_before = h.is_before; from = comma h.from }
   where
     comma : {A : Type 0} {L : Lang A} {t rest : Text} {a : A} → StandsFirst L t (41 ∷ rest) a → StandsFirst (WithComma L) t (41 ∷ rest) a
-    comma {t = t} {rest = rest} h = whole h.solid (skip-other 41 rest refl refl) (record { value = _; left = h.stretch; gap = h.after; right = []; split = h.split ∙ ap (λ t. h.stretch ++ t) (sym (append-nil h.after)); first = h.spelled; is_gap = h.is_after; second = inr (refl, refl) })
+    comma {t = t} {rest = rest} h = whole h.solid (skip-other 41 rest refl refl) (record {
+      value = _;
+      left = h.stretch;
+      gap = h.after;
+      right = [];
+      split = h.split ∙ ap (λ t. h.stretch ++ t) (sym (append-nil h.after));
+      first = h.spelled;
+      is_gap = h.is_after;
+      second = inr (refl, refl);
+    })
 
 -- what has no bare form of its own
-pub plain_stands : {L : Text → Lang Data} {t next : Text} {d : Data} (bare : Bool) → MayFollow bare next → Stands L t next d → Stands (λ before. Plain bare (L before)) t next d
+pub plain_stands : {L : Text → Lang Data} {t next : Text} {d : Data} (bare : Bool) → MayFollow bare next → Stands L t next d
+    → Stands (λ before. Plain bare (L before)) t next d
 plain_stands false f h = h
-plain_stands {L = L} {t = t} {d = d} true f h = subst (λ n. Stands (λ before. WithComma (L before)) t n d) (sym f.1) (comma_stands t f.0 (subst (λ n. Stands L t n d) f.1 h))
+plain_stands {L = L} {t = t} {d = d} true f h =
+    subst (λ n. Stands (λ before. WithComma (L before)) t n d) (sym f.1) (comma_stands t f.0 (subst (λ n. Stands L t n d) f.1 h))

@@ -4,7 +4,9 @@ use Rattle.ron_spec_words.specs.Characters.{Text}
 use Rattle.ron_value.specs.Tree.{Tree}
 use Rattle.ron_spec_grammar.specs.Data.{Data, Datas, Pairs, Fields}
 use Rattle.ron_spec_grammar.specs.Raw.{raw_value}
-use Rattle.ron_spec_layout.specs.Same.{AreSame, itself, raws, in_some, in_list, in_tuple, in_tuple_struct, in_map, in_newtype, in_struct, in_newtype_variant, in_tuple_variant, in_struct_variant, AreSameItems, no_items, item, AreSamePairs, no_entries, entry, AreSameFields, no_members, member}
+use Rattle.ron_spec_layout.specs.Same.{AreSame, itself, raws, in_some, in_list, in_tuple, in_tuple_struct, in_map, in_newtype, in_struct, in_newtype_variant}
+use Rattle.ron_spec_layout.specs.Same.{in_tuple_variant, in_struct_variant, AreSameItems, no_items, item, AreSamePairs, no_entries, entry, AreSameFields}
+use Rattle.ron_spec_layout.specs.Same.{no_members, member}
 
 mutual
   pub turned : {d e : Data} → AreSame d e → AreSame e d
@@ -40,7 +42,8 @@ mutual
   pub in_turn : {d e f : Data} → AreSame d e → AreSame e f → AreSame d f
   in_turn (itself d) k = k
   in_turn (raws s t h) (itself d) = raws s t h
-  in_turn (raws s t h) (raws u v k) = raws s v (record { value = h.value; first = h.first; second = let same : k.value ≡ h.value = one_value t k.first h.second in k.second ∙ ap (λ z. Some z) same })
+  in_turn (raws s t h) (raws u v k) = raws s v
+      (record { value = h.value; first = h.first; second = let same : k.value ≡ h.value = one_value t k.first h.second in k.second ∙ ap (λ z. Some z) same })
   in_turn (in_some d e h) (itself x) = in_some d e h
   in_turn (in_some d e h) (in_some x y k) = in_some d y (in_turn h k)
   in_turn (in_list d e h) (itself x) = in_list d e h

@@ -75,7 +75,8 @@ unfolding smallest_width
 sign_lost = refl
 
 -- two keys of one value in different widths become one, and the last one's value stays
-keys_join : normal false (tree.mapping (pairs_from ((tree.number U8 (pos 1), tree.none) ∷ (tree.number U16 (pos 1), tree.unit) ∷ []))) ≡ tree.mapping (pairs_from ((tree.number U8 (pos 1), tree.unit) ∷ []))
+keys_join : normal false (tree.mapping (pairs_from ((tree.number U8 (pos 1), tree.none) ∷ (tree.number U16 (pos 1), tree.unit) ∷ [])))
+    ≡ tree.mapping (pairs_from ((tree.number U8 (pos 1), tree.unit) ∷ []))
 unfolding smallest_width
 keys_join = refl
 
@@ -83,12 +84,15 @@ keys_join = refl
 
 somes_are_read_back : (room : ℕ) × ValueDocument (with false true) room (codes "Some(-5)") (tree.some (tree.number I8 (neg_ℤ (pos 5))))
 unfolding laying smallest_width
-somes_are_read_back = value_read_back no_config (with false true) (tree.some (tree.number I64 (neg_ℤ (pos 5)))) refl (record { ordered = tt; in_width = refl }) (record { texts = tt; encodable = refl }) (λ i. absurd (cc))
+somes_are_read_back = value_read_back no_config (with false true) (tree.some (tree.number I64 (neg_ℤ (pos 5)))) refl (record { ordered = tt; in_width = refl })
+    (record { texts = tt; encodable = refl }) (λ i. absurd (cc))
 
 no_unit_is_read_back : (room : ℕ) × ValueDocument (with false true) room (codes "Some()") (tree.some tree.unit)
 unfolding laying
-no_unit_is_read_back = value_read_back no_config (with false true) (tree.some tree.unit) refl (record { ordered = tt; in_width = tt }) (record { texts = tt; encodable = refl }) (λ i. absurd (cc))
+no_unit_is_read_back = value_read_back no_config (with false true) (tree.some tree.unit) refl (record { ordered = tt; in_width = tt })
+    (record { texts = tt; encodable = refl }) (λ i. absurd (cc))
 
 list_is_read_back : (room : ℕ) × ValueDocument (with true false) room (codes "[None,5]") (tree.sequence (items_from (tree.none ∷ tree.number U8 (pos 5) ∷ [])))
 unfolding laying smallest_width
-list_is_read_back = value_read_back no_config (with true false) (tree.sequence (items_from (tree.none ∷ five ∷ []))) refl (record { ordered = (tt, (tt, tt)); in_width = (tt, (refl, tt)) }) (record { texts = (tt, (tt, tt)); encodable = refl }) (λ i. refl)
+list_is_read_back = value_read_back no_config (with true false) (tree.sequence (items_from (tree.none ∷ five ∷ []))) refl
+    (record { ordered = (tt, (tt, tt)); in_width = (tt, (refl, tt)) }) (record { texts = (tt, (tt, tt)); encodable = refl }) (λ i. refl)

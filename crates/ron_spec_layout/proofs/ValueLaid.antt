@@ -43,7 +43,9 @@ mutual
   told_parts implicit (tree.mapping ps) h = let p = pairs_told implicit ps h in record { texts = p.texts; encodable = p.encodable; tells = p.tells }
   told_parts implicit (tree.number w n) h = record { texts = tt; encodable = refl; tells = λ i. refl }
   told_parts implicit tree.none h = record { texts = tt; encodable = refl; tells = λ i. refl }
-  told_parts implicit (tree.some t) h = let a = and_parts (not implicit) (value_encodable implicit t) h in let p = told_parts implicit t a.1 in record { texts = p.texts; encodable = p.encodable; tells = no_some implicit t a.0 }
+  told_parts implicit (tree.some t) h = let a = and_parts (not implicit) (value_encodable implicit t) h in
+      let p = told_parts implicit t a.1 in
+      record { texts = p.texts; encodable = p.encodable; tells = no_some implicit t a.0 }
   told_parts implicit (tree.text bs) h = let u = IsUtf8-from_is_utf8 bs h in record { texts = u; encodable = text_scalars bs u; tells = λ i. refl }
   told_parts implicit (tree.bytes bs) h = record { texts = tt; encodable = h; tells = λ i. refl }
   told_parts implicit (tree.sequence ts) h = let p = items_told implicit ts h in record { texts = p.texts; encodable = p.encodable; tells = p.tells }
@@ -69,8 +71,10 @@ mutual
       let p = told_parts implicit t b.0 in
       let q = pairs_told implicit ps b.1 in record {
         texts = (o.texts, p.texts, q.texts);
-        encodable = and_from (is_encodable false (lift k)) (is_encodable false (lift t) && pairs_encodable false (lift_pairs ps)) o.encodable (and_from (is_encodable false (lift t)) (pairs_encodable false (lift_pairs ps)) p.encodable q.encodable);
-        tells = λ i. and_from (holds_no_some k) (holds_no_some t && pairs_hold_no_some ps) (o.tells i) (and_from (holds_no_some t) (pairs_hold_no_some ps) (p.tells i) (q.tells i));
+        encodable = and_from (is_encodable false (lift k)) (is_encodable false (lift t) && pairs_encodable false (lift_pairs ps)) o.encodable
+            (and_from (is_encodable false (lift t)) (pairs_encodable false (lift_pairs ps)) p.encodable q.encodable);
+        tells = λ i. and_from (holds_no_some k) (holds_no_some t && pairs_hold_no_some ps) (o.tells i)
+            (and_from (holds_no_some t) (pairs_hold_no_some ps) (p.tells i) (q.tells i));
       }
 
 module _ (c : Config) (x : Extensions) (docs : Docs) where
@@ -80,13 +84,15 @@ module _ (c : Config) (x : Extensions) (docs : Docs) where
     pub laid : (t : Tree) (level : ℕ) (bare : Bool) (n : ℕ) → layout_within c x level docs bare n (lift t) ≡ value_layout c x level bare n t
     laid (tree.boolean b) level bare n = refl
     laid (tree.character a) level bare n = refl
-    laid (tree.mapping ps) level bare n = ap (λ ts. codes "{" ++ (spaced (spacing c c.compact_maps level) ts ++ codes "}")) (pairs_laid ps (inner_level c.compact_maps level))
+    laid (tree.mapping ps) level bare n =
+        ap (λ ts. codes "{" ++ (spaced (spacing c c.compact_maps level) ts ++ codes "}")) (pairs_laid ps (inner_level c.compact_maps level))
     laid (tree.number w i) level bare n = refl
     laid tree.none level bare n = refl
     laid (tree.some t) level bare n = ap₂ (λ s u. cond x.implicit_some s (in_some u)) (laid t level bare (suc n)) (laid t level x.unwrap_variant_newtypes 0)
     laid (tree.text bs) level bare n = refl
     laid (tree.bytes bs) level bare n = refl
-    laid (tree.sequence ts) level bare n = ap (λ ts. codes "[" ++ (spaced (spacing c c.compact_arrays level) ts ++ codes "]")) (items_laid ts (inner_level c.compact_arrays level) 0)
+    laid (tree.sequence ts) level bare n =
+        ap (λ ts. codes "[" ++ (spaced (spacing c c.compact_arrays level) ts ++ codes "]")) (items_laid ts (inner_level c.compact_arrays level) 0)
     laid tree.unit level bare n = refl
 
     items_laid : (ts : tree.Items) (level k : ℕ) → numbered_texts c x level docs k (lift_items ts) ≡ value_texts c x level k ts
@@ -95,7 +101,8 @@ module _ (c : Config) (x : Extensions) (docs : Docs) where
 
     pairs_laid : (ps : tree.Pairs) (level : ℕ) → pair_texts c x level docs (lift_pairs ps) ≡ entry_texts c x level ps
     pairs_laid tree.no_pairs level = refl
-    pairs_laid (tree.pair_and k t ps) level = ap₂ (λ s ss. s ∷ ss) (ap₂ (λ s u. s ++ (colon c ++ u)) (laid k level false 0) (laid t level false 0)) (pairs_laid ps level)
+    pairs_laid (tree.pair_and k t ps) level =
+        ap₂ (λ s ss. s ∷ ss) (ap₂ (λ s u. s ++ (colon c ++ u)) (laid k level false 0) (laid t level false 0)) (pairs_laid ps level)
 
 pub laid_as_data : IsLaidAsData
 unfolding layout_within

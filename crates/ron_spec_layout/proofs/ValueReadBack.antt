@@ -34,19 +34,27 @@ value_body unwrap room h = let q : h.text_from ++ [] ≡ h.from.stretch ++ h.fro
 
 module _ (c : Config) (gaps : AreGaps c) (x : Extensions) (t : Tree) (value : IsValue t) (code : IsEncodableValue t) (tells : TellsSomes x t) where
   -- behind a gap that was written before it
-  value_led : (level : ℕ) (docs : Docs) (bare : Bool) (lead next : Text) → (bare ≡ true → lead ≡ []) → Closed lead → MayFollow bare next → Stands (AnySpells x.unwrap_variant_newtypes (least_depth (lift t)) bare) (lead ++ layout c x level docs bare (lift t)) next (normal c.number_suffixes t)
+  value_led : (level : ℕ) (docs : Docs) (bare : Bool) (lead next : Text) → (bare ≡ true → lead ≡ []) → Closed lead → MayFollow bare next
+      → Stands (AnySpells x.unwrap_variant_newtypes (least_depth (lift t)) bare) (lead ++ layout c x level docs bare (lift t)) next (normal c.number_suffixes t)
   value_led level docs bare lead next none_bare g f =
-      subst (λ u. Stands (AnySpells x.unwrap_variant_newtypes (least_depth (lift t)) bare) (lead ++ u) next (normal c.number_suffixes t)) (sym (laid c x docs t level bare 0)) (go bare none_bare f (value_spelled c gaps x t (least_depth (lift t)) level bare next value.in_width code.texts code.encodable tells (omega arith) f))
+      subst (λ u. Stands (AnySpells x.unwrap_variant_newtypes (least_depth (lift t)) bare) (lead ++ u) next (normal c.number_suffixes t))
+      (sym (laid c x docs t level bare 0))
+      (go bare none_bare f (value_spelled c gaps x t (least_depth (lift t)) level bare next value.in_width code.texts code.encodable tells (omega arith) f))
     where
-      go : (bare : Bool) → (bare ≡ true → lead ≡ []) → MayFollow bare next → Stands (AnySpells x.unwrap_variant_newtypes (least_depth (lift t)) bare) (value_layout c x level bare 0 t) next (normal c.number_suffixes t) → Stands (AnySpells x.unwrap_variant_newtypes (least_depth (lift t)) bare) (lead ++ value_layout c x level bare 0 t) next (normal c.number_suffixes t)
-      go true b f h = subst (λ u. Stands (AnySpells x.unwrap_variant_newtypes (least_depth (lift t)) true) (u ++ value_layout c x level true 0 t) next (normal c.number_suffixes t)) (sym (b refl)) h
+      go : (bare : Bool) → (bare ≡ true → lead ≡ []) → MayFollow bare next
+          → Stands (AnySpells x.unwrap_variant_newtypes (least_depth (lift t)) bare) (value_layout c x level bare 0 t) next (normal c.number_suffixes t)
+          → Stands (AnySpells x.unwrap_variant_newtypes (least_depth (lift t)) bare) (lead ++ value_layout c x level bare 0 t) next (normal c.number_suffixes t)
+      go true b f h = subst (λ u. Stands (AnySpells x.unwrap_variant_newtypes (least_depth (lift t)) true) (u ++ value_layout c x level true 0 t) next
+          (normal c.number_suffixes t)) (sym (b refl)) h
       go false b f h = behind_gap c gaps x (least_depth (lift t)) g h
 
 pub spelled_value : IsSpelledValue
-spelled_value c x level docs bare lead next t h value code tells b bl g f = (least_depth (lift t), value_led c (are_gaps c h) x t value code tells level docs bare lead next bl g f)
+spelled_value c x level docs bare lead next t h value code tells b bl g f =
+    (least_depth (lift t), value_led c (are_gaps c h) x t value code tells level docs bare lead next bl g f)
 
 pub value_read_back : IsValueReadBack
-value_read_back c defaults t h value code tells = (least_depth (lift t), record { announced = a.announced; head = a.head; body = a.lead ++ text; split = a.split; is_head = a.is_head; is_body = body })
+value_read_back c defaults t h value code tells =
+    (least_depth (lift t), record { announced = a.announced; head = a.head; body = a.lead ++ text; split = a.split; is_head = a.is_head; is_body = body })
   where
     x : Extensions
     x = extensions_under defaults c
@@ -68,4 +76,5 @@ value_read_back c defaults t h value code tells = (least_depth (lift t), record 
     stands = value_led c gaps x t value code tells 0 c.docs false a.lead [] (λ e. absurd (cc)) (closed a.form) (refl, skip-end, refl)
 
     body : ValueBody (in_force defaults a.announced).unwrap_variant_newtypes (least_depth (lift t)) (a.lead ++ text) (normal c.number_suffixes t)
-    body = subst (λ (y : Extensions). ValueBody y.unwrap_variant_newtypes (least_depth (lift t)) (a.lead ++ text) (normal c.number_suffixes t)) (sym a.is_in_force) (value_body x.unwrap_variant_newtypes (least_depth (lift t)) stands)
+    body = subst (λ (y : Extensions). ValueBody y.unwrap_variant_newtypes (least_depth (lift t)) (a.lead ++ text) (normal c.number_suffixes t))
+        (sym a.is_in_force) (value_body x.unwrap_variant_newtypes (least_depth (lift t)) stands)

@@ -78,15 +78,18 @@ two_deep = refl
 
 list_is_read_back : (room : ℕ) × Document (with false) (any_value ∷ []) 0 room (codes "[1,\"a\",None]") several
 unfolding laying smallest_width
-list_is_read_back = read_back (with false) (any_value ∷ []) 0 several refl (refl, record { ordered = (tt, (tt, (tt, tt))); in_width = (refl, (tt, (tt, tt))) }) refl refl refl
+list_is_read_back =
+    read_back (with false) (any_value ∷ []) 0 several refl (refl, record { ordered = (tt, (tt, (tt, tt))); in_width = (refl, (tt, (tt, tt))) }) refl refl refl
 
 none_is_read_back : (room : ℕ) × Document (with true) (optional 1 ∷ any_value ∷ []) 0 room (codes "Some(None)") (some_of (value_of tree.none))
 unfolding laying
-none_is_read_back = read_back (with true) (optional 1 ∷ any_value ∷ []) 0 (some_of (value_of tree.none)) refl (1, refl, (refl, record { ordered = tt; in_width = tt })) refl refl refl
+none_is_read_back = read_back (with true) (optional 1 ∷ any_value ∷ []) 0 (some_of (value_of tree.none)) refl
+    (1, refl, (refl, record { ordered = tt; in_width = tt })) refl refl refl
 
 five_is_read_back : (room : ℕ) × Document (with true) (optional 1 ∷ any_value ∷ []) 0 room (codes "5") (some_of (value_of (number 5)))
 unfolding laying smallest_width
-five_is_read_back = read_back (with true) (optional 1 ∷ any_value ∷ []) 0 (some_of (value_of five)) refl (1, refl, (refl, record { ordered = tt; in_width = refl })) refl refl refl
+five_is_read_back = read_back (with true) (optional 1 ∷ any_value ∷ []) 0 (some_of (value_of five)) refl
+    (1, refl, (refl, record { ordered = tt; in_width = refl })) refl refl refl
 
 -- S(a: any value), where other fields are skipped
 abbrev skipping : List Shape
@@ -97,4 +100,5 @@ field_a = struct_of (codes "S") (field_and (codes "a") (value_of (number 5)) no_
 
 field_is_read_back : (room : ℕ) × Document (with false) skipping 0 room (codes "(a:5)") field_a
 unfolding laying smallest_width
-field_is_read_back = read_back (with false) skipping 0 field_a refl (_, refl, refl, (_, refl, (refl, record { ordered = tt; in_width = refl }), tt)) refl refl refl
+field_is_read_back =
+    read_back (with false) skipping 0 field_a refl (_, refl, refl, (_, refl, (refl, record { ordered = tt; in_width = refl }), tt)) refl refl refl

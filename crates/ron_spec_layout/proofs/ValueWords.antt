@@ -1,5 +1,6 @@
 -- Numbers and texts of values as they are written without a schema: for the layouts of values and for `ron_ser`.
-use Rattle.std.proofs.Common.{◌≡◌, ℕ, suc, ◌≤◌, Bool, true, false, ◌&&◌, cond, ℤ, pos, negsuc, int_le, int_lt, List, [], ◌∷◌, ◌++◌, Option, Some, option_map, find, chars, IsUtf8, refl, sym, ap, ◌∙◌, arith}
+use Rattle.std.proofs.Common.{◌≡◌, ℕ, suc, ◌≤◌, Bool, true, false, ◌&&◌, cond, ℤ, pos, negsuc, int_le, int_lt, List, [], ◌∷◌, ◌++◌, Option, Some, option_map}
+use Rattle.std.proofs.Common.{find, chars, IsUtf8, refl, sym, ap, ◌∙◌, arith}
 use Rattle.std.specs.List.{list_all}
 use Rattle.std.specs.Option.{unwrap_or}
 use lib.Utf8.{scalar, scalars}
@@ -40,14 +41,16 @@ found {A = A} p (a ∷ l) e h = go (p a) (found p l e h)
 
 -- the greatest widths hold what any width of the sign holds
 fits_unsigned : (w : Width) (n : ℕ) → fits w (pos n) ≡ true → fits U128 (pos n) ≡ true
-fits_unsigned w n h = and_from (int_le (least U128) (pos n)) (int_le (pos n) (greatest U128)) (le-leb 0 n (omega arith)) (le-leb n 340282366920938463463374607431768211455 (at_most w (and_parts (int_le (least w) (pos n)) (int_le (pos n) (greatest w)) h).1))
+fits_unsigned w n h = and_from (int_le (least U128) (pos n)) (int_le (pos n) (greatest U128)) (le-leb 0 n (omega arith))
+    (le-leb n 340282366920938463463374607431768211455 (at_most w (and_parts (int_le (least w) (pos n)) (int_le (pos n) (greatest w)) h).1))
   where
     at_most : (w : Width) → int_le (pos n) (greatest w) ≡ true → n ≤ 340282366920938463463374607431768211455
     at_most I8 h = omega (arith, leb-true n _ h)
     at_most _ h = omega (arith, leb-true n _ h)
 
 fits_signed : (w : Width) (n : ℕ) → fits w (negsuc n) ≡ true → fits I128 (negsuc n) ≡ true
-fits_signed w n h = and_from (int_le (least I128) (negsuc n)) (int_le (negsuc n) (greatest I128)) (le-leb n 170141183460469231731687303715884105727 (at_least w (and_parts (int_le (least w) (negsuc n)) (int_le (negsuc n) (greatest w)) h).0)) refl
+fits_signed w n h = and_from (int_le (least I128) (negsuc n)) (int_le (negsuc n) (greatest I128))
+    (le-leb n 170141183460469231731687303715884105727 (at_least w (and_parts (int_le (least w) (negsuc n)) (int_le (negsuc n) (greatest w)) h).0)) refl
   where
     at_least : (w : Width) → int_le (least w) (negsuc n) ≡ true → n ≤ 170141183460469231731687303715884105727
     at_least I8 h = omega (arith, leb-true n _ h)
@@ -80,7 +83,8 @@ taken o w v n e = rw e refl
 pub number_is : (w : Width) (n : ℤ) → fits w n ≡ true → number_tree (plain_numeral n) ≡ Some (in_smallest_width w n)
 number_is w (pos n) h =
     let found = smallest_unsigned w n h in
-    taken (smallest_width false (pos n)) w found.0 (pos n) found.1 ∙ ap (λ b. Some (tree.number (unwrap_or (smallest_width b (pos n)) w) (pos n))) (sym (not_negative n))
+    taken (smallest_width false (pos n)) w found.0 (pos n) found.1
+    ∙ ap (λ b. Some (tree.number (unwrap_or (smallest_width b (pos n)) w) (pos n))) (sym (not_negative n))
 number_is w (negsuc n) h =
     let found = smallest_signed w n h in
     taken (smallest_width true (negsuc n)) w found.0 (negsuc n) found.1

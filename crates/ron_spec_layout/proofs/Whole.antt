@@ -1,5 +1,6 @@
 -- Whole texts are read back, and what may follow a layout: for the law, and for the clauses of `ron`.
-use Rattle.std.proofs.Common.{◌≡◌, ℕ, Bool, true, false, ◌||◌, List, ◌⊎◌, [], ◌∷◌, ◌++◌, inl, inr, refl, sym, ap, subst, ◌∙◌, length, length-append, append-nil, arith}
+use Rattle.std.proofs.Common.{◌≡◌, ℕ, Bool, true, false, ◌||◌, List, ◌⊎◌, [], ◌∷◌, ◌++◌, inl, inr, refl, sym, ap, subst, ◌∙◌, length, length-append, append-nil}
+use Rattle.std.proofs.Common.{arith}
 use Rattle.ron_spec_words.specs.Characters.{Text, continues_word}
 use Rattle.ron_spec_words.specs.Runs.{begins, is_ended}
 use Rattle.ron_spec_words.specs.Gap.{skip, ends_value}
@@ -55,11 +56,15 @@ ending c x level docs bare d h = go (is_documented c docs d) refl
 
 pub is_spelled : IsSpelled
 is_spelled c x schema root i level docs bare lead next d h well o en ok b bl g f =
-    let z = ending c x level docs bare d h in
-    (ample d, subst (λ t. Stands (Spells x schema (ample d) bare i) (lead ++ t) next (back c x level lead d)) (sym z.same) (spelled c (are_gaps c h.blank) x schema root well d (ample d) i level z.docs_too bare lead next z.ends o en ok (omega arith) b bl g f))
+    let z = ending c x level docs bare d h in (
+      ample d,
+      subst (λ t. Stands (Spells x schema (ample d) bare i) (lead ++ t) next (back c x level lead d)) (sym z.same)
+          (spelled c (are_gaps c h.blank) x schema root well d (ample d) i level z.docs_too bare lead next z.ends o en ok (omega arith) b bl g f),
+    )
 
 -- what stands at the end of a text is a body
-body_at : (at_start : Bool) {x : Extensions} {schema : List Shape} {root room : ℕ} {t : Text} {d : Data} → Stands (SpellsAt at_start x schema room false root) t [] d → BodyAt at_start x schema root room t d
+body_at : (at_start : Bool) {x : Extensions} {schema : List Shape} {root room : ℕ} {t : Text} {d : Data}
+    → Stands (SpellsAt at_start x schema room false root) t [] d → BodyAt at_start x schema root room t d
 body_at at_start h = let q : h.text_from ++ [] ≡ h.from.stretch ++ h.from.after = append-nil h.text_from ∙ h.from.split in record {
   before = h.before;
   value = h.from.stretch;
@@ -82,7 +87,8 @@ pub record ReadsBack (c : Config) (defaults : Extensions) (schema : List Shape) 
   pub form : (value ≡ back_first c (extensions_under defaults c) 0 d) ⊎ ((lead : Text) × Closed lead × (value ≡ back c (extensions_under defaults c) 0 lead d))
   pub at_start : announcements defaults c ≡ [] → value ≡ back_first c (extensions_under defaults c) 0 d
 
-pub whole : (c : Config) (defaults : Extensions) (schema : List Shape) (root : ℕ) (d : Data) → IsReadable c c.docs d → is_well_formed schema root ≡ true → OfShape schema root d → is_encodable (extensions_under defaults c).implicit_some d ≡ true → names_ok d ≡ true → ReadsBack c defaults schema root d
+pub whole : (c : Config) (defaults : Extensions) (schema : List Shape) (root : ℕ) (d : Data) → IsReadable c c.docs d → is_well_formed schema root ≡ true
+    → OfShape schema root d → is_encodable (extensions_under defaults c).implicit_some d ≡ true → names_ok d ≡ true → ReadsBack c defaults schema root d
 whole c defaults schema root d h well o en ok = go a.form
   where
     x : Extensions
@@ -103,25 +109,37 @@ whole c defaults schema root d h well o en ok = go a.form
     follows : MayFollow false []
     follows = (refl, skip-end, refl)
 
-    document : (e : Data) → BodyAt (is_ended a.head) x schema root (ample d) (a.lead ++ t) e → Document defaults schema root (ample d) (full_layout defaults c d) e
-    document e b = record { announced = a.announced; head = a.head; body = a.lead ++ t; split = a.split; is_head = a.is_head; is_body = subst (λ (y : Extensions). BodyAt (is_ended a.head) y schema root (ample d) (a.lead ++ t) e) (sym a.is_in_force) b }
+    document : (e : Data) → BodyAt (is_ended a.head) x schema root (ample d) (a.lead ++ t) e
+        → Document defaults schema root (ample d) (full_layout defaults c d) e
+    document e b = record {
+      announced = a.announced;
+      head = a.head;
+      body = a.lead ++ t;
+      split = a.split;
+      is_head = a.is_head;
+      is_body = subst (λ (y : Extensions). BodyAt (is_ended a.head) y schema root (ample d) (a.lead ++ t) e) (sym a.is_in_force) b;
+    }
 
     at_first : BodyAt true x schema root (ample d) t (back_first c x 0 d)
-    at_first = body_at true (subst (λ u. Stands (SpellsAt true x schema (ample d) false root) u [] (back_first c x 0 d)) (sym z.same) (first c gaps x schema root well d (ample d) root 0 z.docs_too [] z.ends o en ok (omega arith) follows))
+    at_first = body_at true (subst (λ u. Stands (SpellsAt true x schema (ample d) false root) u [] (back_first c x 0 d)) (sym z.same)
+        (first c gaps x schema root well d (ample d) root 0 z.docs_too [] z.ends o en ok (omega arith) follows))
 
     behind : (lead : Text) → Closed lead → BodyAt false x schema root (ample d) (lead ++ t) (back c x 0 lead d)
-    behind lead g = body_at false (subst (λ u. Stands (Spells x schema (ample d) false root) (lead ++ u) [] (back c x 0 lead d)) (sym z.same) (spelled c gaps x schema root well d (ample d) root 0 z.docs_too false lead [] z.ends o en ok (omega arith) (not_bare x schema) (λ e. absurd (cc)) g follows))
+    behind lead g = body_at false (subst (λ u. Stands (Spells x schema (ample d) false root) (lead ++ u) [] (back c x 0 lead d)) (sym z.same) (spelled c gaps x
+        schema root well d (ample d) root 0 z.docs_too false lead [] z.ends o en ok (omega arith) (not_bare x schema) (λ e. absurd (cc)) g follows))
 
     go : ((a.head ≡ []) × (a.lead ≡ [])) ⊎ ((is_ended a.head ≡ false) × Closed a.lead) → ReadsBack c defaults schema root d
     go (inl e) = record {
       value = back_first c x 0 d;
-      document = document (back_first c x 0 d) (subst (λ u. BodyAt (is_ended u) x schema root (ample d) (a.lead ++ t) (back_first c x 0 d)) (sym e.0) (subst (λ l. BodyAt true x schema root (ample d) (l ++ t) (back_first c x 0 d)) (sym e.1) at_first));
+      document = document (back_first c x 0 d) (subst (λ u. BodyAt (is_ended u) x schema root (ample d) (a.lead ++ t) (back_first c x 0 d)) (sym e.0)
+          (subst (λ l. BodyAt true x schema root (ample d) (l ++ t) (back_first c x 0 d)) (sym e.1) at_first));
       form = inl refl;
       at_start = λ n. refl;
     }
     go (inr e) = record {
       value = back c x 0 a.lead d;
-      document = document (back c x 0 a.lead d) (subst (λ b. BodyAt b x schema root (ample d) (a.lead ++ t) (back c x 0 a.lead d)) (sym e.0) (behind a.lead e.1));
+      document =
+          document (back c x 0 a.lead d) (subst (λ b. BodyAt b x schema root (ample d) (a.lead ++ t) (back c x 0 a.lead d)) (sym e.0) (behind a.lead e.1));
       form = inr (a.lead, e.1, refl);
       at_start = λ n. absurd (let none = no_head a.head a.lead t (ap (λ u. u ++ t) (sym n) ∙ a.split) in let no : true ≡ false = sym none ∙ e.0 in cc);
     }
@@ -147,7 +165,8 @@ is_read_back c defaults schema root d h well o en ok =
     go v (inr e) = subst (IsReadBackWith c.number_suffixes d) (sym e.2) (back_with c x gaps schema d root 0 e.0 e.1 o)
 
 -- where no raw text stands in the data, of its normal form
-pub normal_read_back : (c : Config) (defaults : Extensions) (schema : List Shape) (root : ℕ) (d : Data) → IsReadable c c.docs d → is_well_formed schema root ≡ true → OfShape schema root d → is_encodable (extensions_under defaults c).implicit_some d ≡ true → names_ok d ≡ true → is_rawless d ≡ true
+pub normal_read_back : (c : Config) (defaults : Extensions) (schema : List Shape) (root : ℕ) (d : Data) → IsReadable c c.docs d → is_well_formed schema root
+    ≡ true → OfShape schema root d → is_encodable (extensions_under defaults c).implicit_some d ≡ true → names_ok d ≡ true → is_rawless d ≡ true
     → (room : ℕ) × Document defaults schema root room (full_layout defaults c d) (norm_with c.number_suffixes d)
 normal_read_back c defaults schema root d h well o en ok rawless =
     let z = is_read_back c defaults schema root d h well o en ok in
@@ -165,7 +184,8 @@ are_alike b c defaults schema root m n d e f same hb hc well o enb enc ok keys d
     let is_e : p.1 ≡ e = unique defaults schema root p.0 m (full_layout defaults b d) p.1 e p.3 de in
     let is_f : q.1 ≡ f = unique defaults schema root q.0 n (full_layout defaults c d) q.1 f q.3 df in
     let first : AreSame e (norm_with b.number_suffixes d) = subst (λ u. AreSame u (norm_with b.number_suffixes d)) is_e (p.2.same keys) in
-    let second : AreSame f (norm_with b.number_suffixes d) = subst (λ s. AreSame f (norm_with s d)) (sym same) (subst (λ u. AreSame u (norm_with c.number_suffixes d)) is_f (q.2.same keys)) in
+    let second : AreSame f (norm_with b.number_suffixes d) =
+    subst (λ s. AreSame f (norm_with s d)) (sym same) (subst (λ u. AreSame u (norm_with c.number_suffixes d)) is_f (q.2.same keys)) in
     in_turn first (turned second)
 
 -- ---- no configuration

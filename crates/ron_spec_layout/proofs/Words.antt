@@ -23,8 +23,10 @@ use Rattle.ron_spec_layout.proofs.Places.{at_shape}
 -- ---- words
 
 boolean_stands : (b : Bool) (next : Text) → Ends next → Stands (λ before. Boolean) (written_bool b) next b
-boolean_stands true next e = at_once (whole (skip-other 116 (codes "rue" ++ next) refl refl) e.1 (inl (record { same = refl; ends = ends_name next e; value = refl })))
-boolean_stands false next e = at_once (whole (skip-other 102 (codes "alse" ++ next) refl refl) e.1 (inr (record { same = refl; ends = ends_name next e; value = refl })))
+boolean_stands true next e =
+    at_once (whole (skip-other 116 (codes "rue" ++ next) refl refl) e.1 (inl (record { same = refl; ends = ends_name next e; value = refl })))
+boolean_stands false next e =
+    at_once (whole (skip-other 102 (codes "alse" ++ next) refl refl) e.1 (inr (record { same = refl; ends = ends_name next e; value = refl })))
 
 pub empty_stands : (next : Text) → Ends next → Stands (λ before. EmptyBrackets) (codes "()") next done
 empty_stands next e = at_once (whole (skip-other 40 (41 ∷ next) refl refl) e.1 (record { rest = 41 ∷ []; split = refl; spelled = (refl, refl) }))
@@ -41,9 +43,12 @@ named_stands name next h e =
 -- ---- shapes
 
 module _ (x : Extensions) (schema : List Shape) where
-  pub bool_stands : (b : Bool) (room i : ℕ) (bare : Bool) (next : Text) → slice_get schema i ≡ Some bool → MayFollow bare next → Stands (Spells x schema room bare i) (written_bool b) next (bool_of b)
-  bool_stands b room i bare next e f = at_shape x schema room i bare bool e (plain_stands bare f (stands_means (bool_of b) bool_data refl (boolean_stands b next (may_follow_ends bare next f))))
+  pub bool_stands : (b : Bool) (room i : ℕ) (bare : Bool) (next : Text) → slice_get schema i ≡ Some bool → MayFollow bare next
+      → Stands (Spells x schema room bare i) (written_bool b) next (bool_of b)
+  bool_stands b room i bare next e f =
+      at_shape x schema room i bare bool e (plain_stands bare f (stands_means (bool_of b) bool_data refl (boolean_stands b next (may_follow_ends bare next f))))
 
-  pub unit_stands : (room i : ℕ) (bare : Bool) (next : Text) → slice_get schema i ≡ Some unit → MayFollow bare next → Stands (Spells x schema room bare i) (bracketed bare []) next the_unit
+  pub unit_stands : (room i : ℕ) (bare : Bool) (next : Text) → slice_get schema i ≡ Some unit → MayFollow bare next
+      → Stands (Spells x schema room bare i) (bracketed bare []) next the_unit
   unit_stands room i false next e f = at_shape x schema room i false unit e (stands_means the_unit unit_data refl (empty_stands next f))
   unit_stands room i true next e f = at_shape x schema room i true unit e (stands_means the_unit unit_data refl (nothing_stands true next f))

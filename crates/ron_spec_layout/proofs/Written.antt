@@ -1,5 +1,6 @@
 -- Literals as a configuration asks for them stand for what they are of: unescaped texts, and integers with suffixes.
-use Rattle.std.proofs.Common.{◌≡◌, ℕ, suc, ◌≤◌, ◌==◌, Bool, true, false, not, ◌||◌, cond, List, [], ◌∷◌, ℤ, ◌++◌, length, codes, chars, flat_map, encode_utf8, inl, inr, Some, refl, ap, subst, ◌∙◌, arith}
+use Rattle.std.proofs.Common.{◌≡◌, ℕ, suc, ◌≤◌, ◌==◌, Bool, true, false, not, ◌||◌, cond, List, [], ◌∷◌, ℤ, ◌++◌, length, codes, chars, flat_map, encode_utf8}
+use Rattle.std.proofs.Common.{inl, inr, Some, refl, ap, subst, ◌∙◌, arith}
 use Rattle.std.specs.List.{list_all}
 use Rattle.std.specs.Str.{is_utf8}
 use Rattle.std.proofs.lemmas.Bool.{or_parts, not-true}
@@ -63,35 +64,54 @@ module _ (give : ℕ → Text) (E : Lang Text) where
   plain_piece c next h = let k = or_parts (c == double_quote) (c == backslash) (not-true _ h) in piece_plain give E c next k.0 k.1
 
   plain_pieces : (t next : Text) → needs_raw t ≡ false → Pieces (StringPiece give E) (t ++ 34 ∷ []) next (flat_map give t)
-  plain_pieces t next h = subst (λ u. Pieces (StringPiece give E) (u ++ 34 ∷ []) next (flat_map give t)) (flat_map-itself t) (pieces_in_row (StringPiece give E) give itself is_plain plain_piece t next (all_plain t h))
+  plain_pieces t next h = subst (λ u. Pieces (StringPiece give E) (u ++ 34 ∷ []) next (flat_map give t)) (flat_map-itself t)
+      (pieces_in_row (StringPiece give E) give itself is_plain plain_piece t next (all_plain t h))
 
 unescaped_string : (t next : Text) → String (unescaped t) next t
 unescaped_string t next = go (needs_raw t) refl
   where
     go : (b : Bool) → needs_raw t ≡ b → String (cond b (codes "r" ++ between_hashes (suc (longest_hashes t)) t) (codes "\"" ++ (t ++ codes "\""))) next t
     go true e = inr (record { rest = _; split = refl; spelled = raw_written (suc (longest_hashes t)) t next (few (longest_hashes t) t (omega arith)) })
-    go false e = inl (record { rest = _; split = refl; spelled = subst (λ u. Pieces (StringPiece itself StringEscape) (t ++ 34 ∷ []) next u) (flat_map-itself t) (plain_pieces itself StringEscape t next e) })
+    go false e = inl (record {
+      rest = _;
+      split = refl;
+      spelled = subst (λ u. Pieces (StringPiece itself StringEscape) (t ++ 34 ∷ []) next u) (flat_map-itself t) (plain_pieces itself StringEscape t next e);
+    })
 
 unescaped_bytes : (t next : Text) → ByteString (codes "b" ++ unescaped t) next (flat_map encode_utf8 t)
 unescaped_bytes t next = go (needs_raw t) refl
   where
-    go : (b : Bool) → needs_raw t ≡ b → ByteString (codes "b" ++ cond b (codes "r" ++ between_hashes (suc (longest_hashes t)) t) (codes "\"" ++ (t ++ codes "\""))) next (flat_map encode_utf8 t)
-    go true e = record { rest = _; split = refl; spelled = inr (record { rest = _; split = refl; spelled = record { value = t; spelled = raw_written (suc (longest_hashes t)) t next (few (longest_hashes t) t (omega arith)); meant = refl } }) }
-    go false e = record { rest = _; split = refl; spelled = inl (record { rest = _; split = refl; spelled = plain_pieces encode_utf8 ByteStringEscape t next e }) }
+    go : (b : Bool) → needs_raw t ≡ b → ByteString
+        (codes "b" ++ cond b (codes "r" ++ between_hashes (suc (longest_hashes t)) t) (codes "\"" ++ (t ++ codes "\""))) next (flat_map encode_utf8 t)
+    go true e = record {
+      rest = _;
+      split = refl;
+      spelled = inr (record {
+        rest = _;
+        split = refl;
+        spelled = record { value = t; spelled = raw_written (suc (longest_hashes t)) t next (few (longest_hashes t) t (omega arith)); meant = refl };
+      });
+    }
+    go false e =
+        record { rest = _; split = refl; spelled = inl (record { rest = _; split = refl; spelled = plain_pieces encode_utf8 ByteStringEscape t next e }) }
 
 pub string_text_stands : (escape : Bool) (t next : Text) → list_all scalar t ≡ true → Ends next → Stands (λ before. String) (string_text escape t) next t
-string_text_stands escape t next h e = word_stands (first_string (λ s. skip s ≡ s) (λ s. skip-other 34 s refl refl) (λ s. skip-other 114 s refl refl)) (go escape) e
+string_text_stands escape t next h e =
+    word_stands (first_string (λ s. skip s ≡ s) (λ s. skip-other 34 s refl refl) (λ s. skip-other 114 s refl refl)) (go escape) e
   where
     go : (b : Bool) → String (string_text b t) next t
     go true = string_written t next h
     go false = unescaped_string t next
 
-pub bytes_text_stands : (escape : Bool) (bs : List ℕ) (next : Text) → list_all is_byte bs ≡ true → Ends next → Stands (λ before. ByteString) (bytes_text escape bs) next bs
-bytes_text_stands escape bs next h e = word_stands (first_byte_string (λ s. skip s ≡ s) (λ s. skip-other 98 (34 ∷ s) refl refl) (λ s. skip-other 98 (114 ∷ s) refl refl)) (go escape (is_utf8 bs) refl) e
+pub bytes_text_stands : (escape : Bool) (bs : List ℕ) (next : Text) → list_all is_byte bs ≡ true → Ends next
+    → Stands (λ before. ByteString) (bytes_text escape bs) next bs
+bytes_text_stands escape bs next h e = word_stands
+    (first_byte_string (λ s. skip s ≡ s) (λ s. skip-other 98 (34 ∷ s) refl refl) (λ s. skip-other 98 (114 ∷ s) refl refl)) (go escape (is_utf8 bs) refl) e
   where
     go : (b u : Bool) → is_utf8 bs ≡ u → ByteString (cond (b || not u) (written_bytes bs) (codes "b" ++ unescaped (chars bs))) next bs
     go true u k = bytes_written bs next h
-    go false true k = subst (λ t. ByteString (codes "b" ++ unescaped (chars bs)) next t) (encodes-chars bs (IsUtf8-from_is_utf8 bs k)) (unescaped_bytes (chars bs) next)
+    go false true k =
+        subst (λ t. ByteString (codes "b" ++ unescaped (chars bs)) next t) (encodes-chars bs (IsUtf8-from_is_utf8 bs k)) (unescaped_bytes (chars bs) next)
     go false false k = bytes_written bs next h
 
 -- ---- integers, with suffixes or without
@@ -101,12 +121,15 @@ abbrev spelled_numeral : Bool → Width → ℤ → Numeral
 spelled_numeral false w n = plain_numeral n
 spelled_numeral true w n = own_numeral w n
 
-number_spelled : (suffixes : Bool) (w : Width) (n : ℤ) (next : Text) → fits w n ≡ true → Ends next → UntypedInteger (number_text suffixes w n) next (spelled_numeral suffixes w n)
+number_spelled : (suffixes : Bool) (w : Width) (n : ℤ) (next : Text) → fits w n ≡ true → Ends next
+    → UntypedInteger (number_text suffixes w n) next (spelled_numeral suffixes w n)
 number_spelled false w n next h e = (plain_bounded w n h).alone next e
 number_spelled true w n next h e = (own_bounded w n h).alone next e
 
-number_solid : (suffixes : Bool) (w : Width) (n : ℤ) (next : Text) → fits w n ≡ true → Ends next → skip (number_text suffixes w n ++ next) ≡ number_text suffixes w n ++ next
-number_solid suffixes w n next h e = (any_integer_solid.holds (number_text suffixes w n) next (spelled_numeral suffixes w n) (number_spelled suffixes w n next h e).1).1
+number_solid : (suffixes : Bool) (w : Width) (n : ℤ) (next : Text) → fits w n ≡ true → Ends next
+    → skip (number_text suffixes w n ++ next) ≡ number_text suffixes w n ++ next
+number_solid suffixes w n next h e =
+    (any_integer_solid.holds (number_text suffixes w n) next (spelled_numeral suffixes w n) (number_spelled suffixes w n next h e).1).1
 
 own_width : (w : Width) → same_width w w ≡ true
 own_width I8 = refl
@@ -125,15 +148,19 @@ in_its_width false w n h = rw (plain_suits w n, plain_value n, h) refl
 in_its_width true w n h = rw (width_is w, own_width w, plain_value n, h) refl
 
 -- an integer of a width
-pub integer_text_stands : (suffixes : Bool) (w : Width) (n : ℤ) (next : Text) → fits w n ≡ true → Ends next → Stands (λ before. Means AnyInteger (in_width w)) (number_text suffixes w n) next (int_of w n)
-integer_text_stands suffixes w n next h e = stands_means (int_of w n) (in_width w) (in_its_width suffixes w n h) (at_once (whole (number_solid suffixes w n next h e) e.1 (number_spelled suffixes w n next h e).1))
+pub integer_text_stands : (suffixes : Bool) (w : Width) (n : ℤ) (next : Text) → fits w n ≡ true → Ends next
+    → Stands (λ before. Means AnyInteger (in_width w)) (number_text suffixes w n) next (int_of w n)
+integer_text_stands suffixes w n next h e = stands_means (int_of w n) (in_width w) (in_its_width suffixes w n h)
+    (at_once (whole (number_solid suffixes w n next h e) e.1 (number_spelled suffixes w n next h e).1))
 
 -- an integer of a value: in its smallest width, or with its suffix in its own
 untyped_means : (suffixes : Bool) (w : Width) (n : ℤ) → fits w n ≡ true → number_tree (spelled_numeral suffixes w n) ≡ Some (normal suffixes (tree.number w n))
 untyped_means false w n h = number_is w n h
 untyped_means true w n h = own_number w n h
 
-pub untyped_text_stands : (suffixes : Bool) (w : Width) (n : ℤ) (next : Text) → fits w n ≡ true → Ends next → Stands (λ before. Means NumberOrRange interval_value) (number_text suffixes w n) next (normal suffixes (tree.number w n))
+pub untyped_text_stands : (suffixes : Bool) (w : Width) (n : ℤ) (next : Text) → fits w n ≡ true → Ends next
+    → Stands (λ before. Means NumberOrRange interval_value) (number_text suffixes w n) next (normal suffixes (tree.number w n))
 untyped_text_stands suffixes w n next h e =
     stands_means (normal suffixes (tree.number w n)) interval_value (untyped_means suffixes w n h)
-    (at_once (whole (number_solid suffixes w n next h e) e.1 (one_stands (number_text suffixes w n) next (spelled_numeral suffixes w n) (number_spelled suffixes w n next h e) (ap ends_value e.1 ∙ e.2))))
+    (at_once (whole (number_solid suffixes w n next h e) e.1
+    (one_stands (number_text suffixes w n) next (spelled_numeral suffixes w n) (number_spelled suffixes w n next h e) (ap ends_value e.1 ∙ e.2))))

@@ -1,7 +1,9 @@
 -- What the layout is read back as: the normal form, but that a raw text takes the gaps around it, also those that were written before it.
 use Rattle.std.specs.Prelude.{ℕ, suc, not, List, [], ◌∷◌, ◌++◌, if◌then◌else◌}
 use Rattle.ron_spec_words.specs.Characters.{Text}
-use Rattle.ron_spec_grammar.specs.Data.{Data, bool_of, int_of, char_of, str_of, bytes_of, the_unit, the_none, some_of, unit_struct_of, list_of, tuple_of, tuple_struct_of, map_of, newtype_of, struct_of, unit_variant_of, newtype_variant_of, tuple_variant_of, struct_variant_of, value_of, Datas, no_datas, data_and, Pairs, no_pairs, pair_and, Fields, no_fields, field_and, raw_of}
+use Rattle.ron_spec_grammar.specs.Data.{Data, bool_of, int_of, char_of, str_of, bytes_of, the_unit, the_none, some_of, unit_struct_of, list_of, tuple_of}
+use Rattle.ron_spec_grammar.specs.Data.{tuple_struct_of, map_of, newtype_of, struct_of, unit_variant_of, newtype_variant_of, tuple_variant_of}
+use Rattle.ron_spec_grammar.specs.Data.{struct_variant_of, value_of, Datas, no_datas, data_and, Pairs, no_pairs, pair_and, Fields, no_fields, field_and, raw_of}
 use Rattle.ron_spec_grammar.specs.Rule.{Extensions}
 use Rattle.ron_spec_grammar.specs.Equal.{folded}
 use Rattle.ron_spec_grammar.specs.Values.Trees.{normal}
@@ -20,15 +22,20 @@ abbrev mutual
   back c x level lead the_none = the_none
   back c x level lead (some_of d) = some_of (back c x level [] d)
   back c x level lead (unit_struct_of name) = unit_struct_of name
-  back c x level lead (list_of ds) = list_of (numbered_back c x (inner_level c.compact_arrays level) (spacing c c.compact_arrays level).first (spacing c c.compact_arrays level).between 0 ds)
-  back c x level lead (tuple_of ds) = tuple_of (items_back c x (inner_level (not c.separate_tuple_members) level) (spacing c (not c.separate_tuple_members) level).first (spacing c (not c.separate_tuple_members) level).between ds)
-  back c x level lead (tuple_struct_of name ds) = tuple_struct_of name (items_back c x (inner_level (not c.separate_tuple_members) level) (spacing c (not c.separate_tuple_members) level).first (spacing c (not c.separate_tuple_members) level).between ds)
-  back c x level lead (map_of ps) = map_of (folded (pairs_back c x (inner_level c.compact_maps level) (spacing c c.compact_maps level).first (spacing c c.compact_maps level).between ps))
+  back c x level lead (list_of ds) =
+      list_of (numbered_back c x (inner_level c.compact_arrays level) (spacing c c.compact_arrays level).first (spacing c c.compact_arrays level).between 0 ds)
+  back c x level lead (tuple_of ds) = tuple_of (items_back c x (inner_level (not c.separate_tuple_members) level)
+      (spacing c (not c.separate_tuple_members) level).first (spacing c (not c.separate_tuple_members) level).between ds)
+  back c x level lead (tuple_struct_of name ds) = tuple_struct_of name (items_back c x (inner_level (not c.separate_tuple_members) level)
+      (spacing c (not c.separate_tuple_members) level).first (spacing c (not c.separate_tuple_members) level).between ds)
+  back c x level lead (map_of ps) =
+      map_of (folded (pairs_back c x (inner_level c.compact_maps level) (spacing c c.compact_maps level).first (spacing c c.compact_maps level).between ps))
   back c x level lead (newtype_of name d) = newtype_of name (back c x level (if x.unwrap_newtypes then lead else []) d)
   back c x level lead (struct_of name fields) = struct_of name (fields_back c x (inner_level c.compact_structs level) fields)
   back c x level lead (unit_variant_of name v) = unit_variant_of name v
   back c x level lead (newtype_variant_of name v d) = newtype_variant_of name v (back c x level [] d)
-  back c x level lead (tuple_variant_of name v ds) = tuple_variant_of name v (items_back c x (inner_level (not c.separate_tuple_members) level) (spacing c (not c.separate_tuple_members) level).first (spacing c (not c.separate_tuple_members) level).between ds)
+  back c x level lead (tuple_variant_of name v ds) = tuple_variant_of name v (items_back c x (inner_level (not c.separate_tuple_members) level)
+      (spacing c (not c.separate_tuple_members) level).first (spacing c (not c.separate_tuple_members) level).between ds)
   back c x level lead (struct_variant_of name v fields) = struct_variant_of name v (fields_back c x (inner_level c.compact_structs level) fields)
   back c x level lead (value_of t) = value_of (normal c.number_suffixes t)
   back c x level lead (raw_of t) = raw_of (trimmed (lead ++ t))

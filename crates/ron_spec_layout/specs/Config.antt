@@ -32,7 +32,8 @@ pub data Docs : Type 0 where
 
 -- ---- configurations
 
--- What a text is laid out by: how many levels of items stand on lines of their own, the texts of a new line, of an indentation and of a separator, switches, the extensions that are announced, and doc comments.
+-- What a text is laid out by: how many levels of items stand on lines of their own, the texts of a new line, of an indentation and of a separator, switches,
+-- the extensions that are announced, and doc comments.
 pub record Config : Type 0 where
   pub depth_limit : ℕ
   pub new_line : Text

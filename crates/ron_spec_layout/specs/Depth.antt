@@ -6,7 +6,9 @@
 use Rattle.std.specs.Prelude.{ℕ, ◌+◌, max, is_some, if◌then◌else◌}
 use Rattle.ron_value.specs.Tree.{Tree}
 use Rattle.ron_value.specs.Tree as tree
-use Rattle.ron_spec_grammar.specs.Data.{Data, bool_of, int_of, char_of, str_of, bytes_of, the_unit, the_none, some_of, unit_struct_of, list_of, tuple_of, tuple_struct_of, map_of, newtype_of, struct_of, unit_variant_of, newtype_variant_of, tuple_variant_of, struct_variant_of, value_of, Datas, no_datas, data_and, Pairs, no_pairs, pair_and, Fields, no_fields, field_and, raw_of}
+use Rattle.ron_spec_grammar.specs.Data.{Data, bool_of, int_of, char_of, str_of, bytes_of, the_unit, the_none, some_of, unit_struct_of, list_of, tuple_of}
+use Rattle.ron_spec_grammar.specs.Data.{tuple_struct_of, map_of, newtype_of, struct_of, unit_variant_of, newtype_variant_of, tuple_variant_of}
+use Rattle.ron_spec_grammar.specs.Data.{struct_variant_of, value_of, Datas, no_datas, data_and, Pairs, no_pairs, pair_and, Fields, no_fields, field_and, raw_of}
 use Rattle.ron_spec_layout.specs.Config.{Config}
 use Rattle.ron_spec_layout.specs.Ranges.{compact_range}
 
@@ -28,7 +30,8 @@ abbrev mutual
   entries_writer_depth tree.no_pairs = 0
   entries_writer_depth (tree.pair_and key t ps) = max (max (1 + value_writer_depth key) (1 + value_writer_depth t)) (entries_writer_depth ps)
 
--- One level for the content of a Some, a newtype and a newtype variant, for each item, for each key and value of a map, and for each field's value. A compact range takes no level.
+-- One level for the content of a Some, a newtype and a newtype variant, for each item, for each key and value of a map, and for each field's value. A compact
+-- range takes no level.
 abbrev mutual
   pub writer_depth : Config → Data → ℕ
   writer_depth c (bool_of b) = 0

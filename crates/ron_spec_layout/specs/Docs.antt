@@ -4,7 +4,8 @@ use Rattle.std.specs.List.{flat_map}
 use Rattle.std.specs.Str.Lines.{lines}
 use Rattle.ron_spec_words.specs.Characters.{Text}
 use Rattle.ron_spec_words.specs.Runs.{same_text}
-use Rattle.ron_spec_grammar.specs.Data.{Data, some_of, list_of, tuple_of, tuple_struct_of, map_of, newtype_of, struct_of, newtype_variant_of, tuple_variant_of, struct_variant_of, Datas, no_datas, data_and, Pairs, no_pairs, pair_and, Fields, no_fields, field_and}
+use Rattle.ron_spec_grammar.specs.Data.{Data, some_of, list_of, tuple_of, tuple_struct_of, map_of, newtype_of, struct_of, newtype_variant_of, tuple_variant_of}
+use Rattle.ron_spec_grammar.specs.Data.{struct_variant_of, Datas, no_datas, data_and, Pairs, no_pairs, pair_and, Fields, no_fields, field_and}
 use Rattle.ron_spec_layout.specs.Config.{Docs, no_docs, doc_and, Config, times}
 use Rattle.ron_spec_layout.specs.Ranges.{compact_range}
 
@@ -66,4 +67,5 @@ abbrev mutual
 
   pub fields_documented : Config → Docs → Fields → Bool
   fields_documented c docs no_fields = false
-  fields_documented c docs (field_and name d fields) = (not c.compact_structs && has_lines (lines (doc_of docs name))) || (is_documented c (docs_within docs name) d || fields_documented c docs fields)
+  fields_documented c docs (field_and name d fields) =
+      (not c.compact_structs && has_lines (lines (doc_of docs name))) || (is_documented c (docs_within docs name) d || fields_documented c docs fields)

@@ -1,4 +1,5 @@
--- Data that code can hold and whose text tells all of it: its characters are Unicode scalar values, its bytes bytes, and the texts in its values UTF-8; under implicit_some no value holds a Some, which the text would leave out.
+-- Data that code can hold and whose text tells all of it: its characters are Unicode scalar values, its bytes bytes, and the texts in its values UTF-8; under
+-- implicit_some no value holds a Some, which the text would leave out.
 --
 -- Texts must be UTF-8. A tree's text is a list of bytes, and what is laid out are its characters. Only of UTF-8 do
 -- the characters give the bytes back, so the law asks it of each text, beside what it asks of data
@@ -14,7 +15,9 @@ use Rattle.std.specs.Str.{is_utf8}
 use lib.Utf8.{scalar}
 use Rattle.ron_value.specs.Tree.{Tree}
 use Rattle.ron_value.specs.Tree as tree
-use Rattle.ron_spec_grammar.specs.Data.{Data, bool_of, int_of, char_of, str_of, bytes_of, the_unit, the_none, some_of, unit_struct_of, list_of, tuple_of, tuple_struct_of, map_of, newtype_of, struct_of, unit_variant_of, newtype_variant_of, tuple_variant_of, struct_variant_of, value_of, Datas, no_datas, data_and, Pairs, no_pairs, pair_and, Fields, no_fields, field_and, raw_of}
+use Rattle.ron_spec_grammar.specs.Data.{Data, bool_of, int_of, char_of, str_of, bytes_of, the_unit, the_none, some_of, unit_struct_of, list_of, tuple_of}
+use Rattle.ron_spec_grammar.specs.Data.{tuple_struct_of, map_of, newtype_of, struct_of, unit_variant_of, newtype_variant_of, tuple_variant_of}
+use Rattle.ron_spec_grammar.specs.Data.{struct_variant_of, value_of, Datas, no_datas, data_and, Pairs, no_pairs, pair_and, Fields, no_fields, field_and, raw_of}
 
 -- a value without a schema
 abbrev mutual

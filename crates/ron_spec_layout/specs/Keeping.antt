@@ -12,7 +12,8 @@ use Rattle.ron_spec_layout.specs.Layout.{item_texts, field_texts}
 
 -- the text of a tuple's items
 abbrev pub tuple_inside : Config → Extensions → ℕ → Docs → Datas → Text
-tuple_inside c x level docs ds = spaced (spacing c (not c.separate_tuple_members) level) (item_texts c x (inner_level (not c.separate_tuple_members) level) docs ds)
+tuple_inside c x level docs ds =
+    spaced (spacing c (not c.separate_tuple_members) level) (item_texts c x (inner_level (not c.separate_tuple_members) level) docs ds)
 
 -- the text of a struct's fields
 abbrev pub fields_inside : Config → Extensions → ℕ → Docs → Fields → Text
@@ -24,7 +25,8 @@ value_keeps tree.none = true
 value_keeps (tree.some t) = value_keeps t
 value_keeps _ = false
 
--- Pending Somes are written out: around `None`, a raw text, and a bare tuple that would be taken for an option; around a Some or a newtype alone as around its content.
+-- Pending Somes are written out: around `None`, a raw text, and a bare tuple that would be taken for an option; around a Some or a newtype alone as around its
+-- content.
 abbrev pub keeps : Config → Extensions → ℕ → Docs → Bool → Data → Bool
 keeps c x level docs bare the_none = true
 keeps c x level docs bare (some_of d) = keeps c x level docs bare d

@@ -15,7 +15,9 @@ use Rattle.std.specs.Option.{option_or}
 use Rattle.ron_spec_words.specs.Characters.{Text}
 use Rattle.ron_spec_words.specs.Name.{value_words, is_name, is_plain_identifier}
 use Rattle.ron_spec_words.specs.Runs.{same_text}
-use Rattle.ron_spec_grammar.specs.Data.{Data, bool_of, int_of, char_of, str_of, bytes_of, the_unit, the_none, some_of, unit_struct_of, list_of, tuple_of, tuple_struct_of, map_of, newtype_of, struct_of, unit_variant_of, newtype_variant_of, tuple_variant_of, struct_variant_of, value_of, Datas, no_datas, data_and, Pairs, no_pairs, pair_and, Fields, no_fields, field_and, raw_of}
+use Rattle.ron_spec_grammar.specs.Data.{Data, bool_of, int_of, char_of, str_of, bytes_of, the_unit, the_none, some_of, unit_struct_of, list_of, tuple_of}
+use Rattle.ron_spec_grammar.specs.Data.{tuple_struct_of, map_of, newtype_of, struct_of, unit_variant_of, newtype_variant_of, tuple_variant_of}
+use Rattle.ron_spec_grammar.specs.Data.{struct_variant_of, value_of, Datas, no_datas, data_and, Pairs, no_pairs, pair_and, Fields, no_fields, field_and, raw_of}
 
 -- each name of a struct, of whatever kind, of an enum, a variant and a field in the data can be written: some identifier spells it
 abbrev mutual
@@ -61,7 +63,8 @@ abbrev mutual
 abbrev pub refused_of : Text → Option Text → Option Text
 refused_of name more = if is_name name then more else Some name
 
--- the first name in the data that cannot be written: a struct's own name, and an enum's before its variant's, comes before its fields, items or content, a key before its value, and a field's name before its data
+-- the first name in the data that cannot be written: a struct's own name, and an enum's before its variant's, comes before its fields, items or content, a key
+-- before its value, and a field's name before its data
 abbrev mutual
   pub first_refused : Data → Option Text
   first_refused (bool_of b) = None

@@ -9,11 +9,15 @@
 -- as in reading. That of a value without a schema changes numbers too, unless suffixes are written, and its maps stay
 -- in key order.
 use Rattle.std.specs.Prelude.{Bool, List, [], ◌∷◌}
-use Rattle.ron_spec_grammar.specs.Data.{Data, bool_of, int_of, char_of, str_of, bytes_of, the_unit, the_none, some_of, unit_struct_of, list_of, tuple_of, tuple_struct_of, map_of, newtype_of, struct_of, unit_variant_of, newtype_variant_of, tuple_variant_of, struct_variant_of, value_of, Datas, no_datas, data_and, Pairs, no_pairs, pair_and, Fields, no_fields, field_and, raw_of}
+use Rattle.ron_spec_grammar.specs.Data.{Data, bool_of, int_of, char_of, str_of, bytes_of, the_unit, the_none, some_of, unit_struct_of, list_of, tuple_of}
+use Rattle.ron_spec_grammar.specs.Data.{tuple_struct_of, map_of, newtype_of, struct_of, unit_variant_of, newtype_variant_of, tuple_variant_of}
+use Rattle.ron_spec_grammar.specs.Data.{struct_variant_of, value_of, Datas, no_datas, data_and, Pairs, no_pairs, pair_and, Fields, no_fields, field_and, raw_of}
 use Rattle.ron_spec_grammar.specs.Equal.{folded}
 use Rattle.ron_spec_grammar.specs.Values.Trees.{normal}
 
--- Numbers are written with their suffixes or without them. In a map a key that comes again keeps its first place and takes the last value, once all that stands in the map is in normal form. A value without a schema takes its own normal form, its numbers in their smallest width where no suffixes are written. All else stays as it is.
+-- Numbers are written with their suffixes or without them. In a map a key that comes again keeps its first place and takes the last value, once all that stands
+-- in the map is in normal form. A value without a schema takes its own normal form, its numbers in their smallest width where no suffixes are written. All else
+-- stays as it is.
 abbrev mutual
   pub norm_with : Bool → Data → Data
   norm_with suffixes (bool_of b) = bool_of b

@@ -25,7 +25,8 @@ around_dots closed a b = option_and_then (λ s. option_map (λ t. s ++ (dots_tex
 
 -- the text of a range struct's fields, closed or not: `start` and `end`, in this order, or the one that there is
 abbrev pub fields_range : Bool → Bool → Text → Fields → Option Text
-fields_range suffixes closed name (field_and a d (field_and b e no_fields)) = if spans closed name && (same_text a (codes "start") && same_text b (codes "end")) then around_dots closed (bound_text suffixes d) (bound_text suffixes e) else None
+fields_range suffixes closed name (field_and a d (field_and b e no_fields)) = if spans closed name && (same_text a (codes "start") && same_text b (codes "end"))
+    then around_dots closed (bound_text suffixes d) (bound_text suffixes e) else None
 fields_range suffixes closed name (field_and a d no_fields) =
     if starts closed name && same_text a (codes "start") then around_dots closed (bound_text suffixes d) (Some []) else
     if reaches closed name && same_text a (codes "end") then around_dots closed (Some []) (bound_text suffixes d) else None

@@ -1,7 +1,8 @@
 -- Data that is the same but for how its raw texts are spelled.
 use Rattle.std.specs.Prelude.{◌≡◌, Bool, true, false, ◌&&◌}
 use Rattle.ron_spec_words.specs.Characters.{Text}
-use Rattle.ron_spec_grammar.specs.Data.{Data, some_of, list_of, tuple_of, tuple_struct_of, map_of, newtype_of, struct_of, newtype_variant_of, tuple_variant_of, struct_variant_of, raw_of, Datas, no_datas, data_and, Pairs, no_pairs, pair_and, Fields, no_fields, field_and}
+use Rattle.ron_spec_grammar.specs.Data.{Data, some_of, list_of, tuple_of, tuple_struct_of, map_of, newtype_of, struct_of, newtype_variant_of, tuple_variant_of}
+use Rattle.ron_spec_grammar.specs.Data.{struct_variant_of, raw_of, Datas, no_datas, data_and, Pairs, no_pairs, pair_and, Fields, no_fields, field_and}
 use Rattle.ron_spec_grammar.specs.Raw.{SameRaw}
 use Rattle.ron_spec_layout.specs.Normal.{norm_with}
 
@@ -92,7 +93,8 @@ abbrev mutual
 
 -- ---- what a layout is read back as
 
--- The same as the normal form, told whether numbers are written with their suffixes, where no key of a map holds a raw text; and equal to it where no raw text stands in the data.
+-- The same as the normal form, told whether numbers are written with their suffixes, where no key of a map holds a raw text; and equal to it where no raw text
+-- stands in the data.
 pub record IsReadBackWith (suffixes : Bool) (d e : Data) : Type 0 where
   pub same : has_plain_keys d ≡ true → AreSame e (norm_with suffixes d)
   pub equal : is_rawless d ≡ true → e ≡ norm_with suffixes d

@@ -79,20 +79,26 @@ pub record ValueDocument (defaults : Extensions) (limit : ℕ) (text : Text) (t 
   pub is_head : Head announced head body
   pub is_body : ValueBody (in_force defaults announced).unwrap_variant_newtypes limit body t
 
--- Behind any gap that something follows, the layout of such a value stands for its normal form, its numbers in their smallest width where no suffixes are written, not bare or, where that may be, bare, at some depth.
+-- Behind any gap that something follows, the layout of such a value stands for its normal form, its numbers in their smallest width where no suffixes are
+-- written, not bare or, where that may be, bare, at some depth.
 abbrev pub IsSpelledValue : Type 0
-IsSpelledValue = (c : Config) (x : Extensions) (level : ℕ) (docs : Docs) (bare : Bool) (lead next : Text) (t : Tree) → blank c ≡ true → IsValue t → IsEncodableValue t → TellsSomes x t → MayBeBare x bare → (bare ≡ true → lead ≡ []) → Gap lead (codes ",") → MayFollow bare next
+IsSpelledValue = (c : Config) (x : Extensions) (level : ℕ) (docs : Docs) (bare : Bool) (lead next : Text) (t : Tree) → blank c ≡ true → IsValue t
+    → IsEncodableValue t → TellsSomes x t → MayBeBare x bare → (bare ≡ true → lead ≡ []) → Gap lead (codes ",") → MayFollow bare next
     → (room : ℕ) × Stands (AnySpells x.unwrap_variant_newtypes room bare) (lead ++ layout c x level docs bare (lift t)) next (normal c.number_suffixes t)
 
 -- The whole text is a document of the normal form, at some depth.
 abbrev pub IsValueReadBack : Type 0
-IsValueReadBack = (c : Config) (defaults : Extensions) (t : Tree) → blank c ≡ true → IsValue t → IsEncodableValue t → TellsSomes (extensions_under defaults c) t → (room : ℕ) × ValueDocument defaults room (full_layout defaults c (lift t)) (normal c.number_suffixes t)
+IsValueReadBack = (c : Config) (defaults : Extensions) (t : Tree) → blank c ≡ true → IsValue t → IsEncodableValue t → TellsSomes (extensions_under defaults c) t
+    → (room : ℕ) × ValueDocument defaults room (full_layout defaults c (lift t)) (normal c.number_suffixes t)
 
 -- With suffixes, where Somes are written, a value without a schema comes back unchanged.
 abbrev pub IsValueKept : Type 0
-IsValueKept = (c : Config) (defaults : Extensions) (schema : List Shape) (root : ℕ) (t : Tree) → c.number_suffixes ≡ true → (extensions_under defaults c).implicit_some ≡ false → blank c ≡ true → is_well_formed schema root ≡ true → OfShape schema root (value_of t) → is_encodable false (value_of t) ≡ true
+IsValueKept = (c : Config) (defaults : Extensions) (schema : List Shape) (root : ℕ) (t : Tree) → c.number_suffixes ≡ true
+    → (extensions_under defaults c).implicit_some ≡ false → blank c ≡ true → is_well_formed schema root ≡ true → OfShape schema root (value_of t)
+    → is_encodable false (value_of t) ≡ true
     → (room : ℕ) × Document defaults schema root room (full_layout defaults c (value_of t)) (value_of t)
 
 -- In data, whatever Somes are pending, a value is laid out as its own data.
 abbrev pub IsLaidAsData : Type 0
-IsLaidAsData = (c : Config) (x : Extensions) (level : ℕ) (docs : Docs) (bare : Bool) (n : ℕ) (t : Tree) → layout_within c x level docs bare n (value_of t) ≡ layout_within c x level docs bare n (lift t)
+IsLaidAsData = (c : Config) (x : Extensions) (level : ℕ) (docs : Docs) (bare : Bool) (n : ℕ) (t : Tree)
+    → layout_within c x level docs bare n (value_of t) ≡ layout_within c x level docs bare n (lift t)

@@ -1,5 +1,6 @@
 -- Integers and byte literals are read exactly, and what may not follow an integer: for the shapes of integers and for values.
-use Rattle.std.proofs.Common.{◌≡◌, ℕ, nat_lt, ◌==◌, Bool, true, false, not, ◌&&◌, ◌||◌, cond, [], ◌∷◌, ◌++◌, codes, Option, Some, None, inl, inr, refl, sym, ap, ◌∙◌, append-nil}
+use Rattle.std.proofs.Common.{◌≡◌, ℕ, nat_lt, ◌==◌, Bool, true, false, not, ◌&&◌, ◌||◌, cond, [], ◌∷◌, ◌++◌, codes, Option, Some, None, inl, inr, refl, sym, ap}
+use Rattle.std.proofs.Common.{◌∙◌, append-nil}
 use Rattle.std.proofs.lemmas.Bool.{and_parts, or_parts, not-true}
 use Rattle.std.specs.Char.{is_ascii_hexdigit, digit_value}
 use Rattle.ron_spec_words.specs.Characters.{Text}
@@ -7,7 +8,8 @@ use Rattle.ron_spec_words.specs.Runs.{begins, is_at, begins_with}
 use Rattle.ron_spec_words.specs.Lang.{Run, Behind, When}
 use Rattle.ron_spec_words.specs.Exact.{IsWordReader}
 use Rattle.ron_spec_words.specs.Directly.{stands}
-use Rattle.ron_spec_words.specs.Number.{Suffix, suffix_word, OptSuffix, in_number, is_below, place_value, digits_among, number_in, InBase, opens_base, Magnitude, Numeral, numeral, Unsigned, Number}
+use Rattle.ron_spec_words.specs.Number.{Suffix, suffix_word, OptSuffix, in_number, is_below, place_value, digits_among, number_in, InBase, opens_base}
+use Rattle.ron_spec_words.specs.Number.{Magnitude, Numeral, numeral, Unsigned, Number}
 use Rattle.ron_spec_words.specs.AnyInteger.{byte_numeral, AnyInteger, any_integer, is_float, UntypedInteger, untyped_integer, IsLoneZero, NumberEnds}
 use Rattle.ron_spec_words.proofs.Words.{First, word_choose, word_means, word_when, first_behind, first_or, first_means}
 use Rattle.ron_spec_words.proofs.Classes.{apart, Solid, solid_mark, solid_hexdigit}
@@ -23,7 +25,8 @@ meant_below true o n e = refl
 meant_below false o n e = absurd (cc)
 
 -- the first decimal digit is below ten
-pub digit_below : (c : ℕ) (t next run : Text) (n : ℕ) → Run is_ascii_hexdigit in_number (c ∷ t) next run → number_in 10 run ≡ Some n → nat_lt (digit_value c) 10 ≡ true
+pub digit_below : (c : ℕ) (t next run : Text) (n : ℕ) → Run is_ascii_hexdigit in_number (c ∷ t) next run → number_in 10 run ≡ Some n
+    → nat_lt (digit_value c) 10 ≡ true
 digit_below c t next run n z e =
     let k : is_below 10 (digits_among run) ≡ true = meant_below (is_below 10 (digits_among run)) (Some (place_value 10 (digits_among run))) n e in
     let l : is_below 10 (digits_among (c ∷ t)) ≡ true = ap (λ u. is_below 10 (digits_among u)) z.same ∙ k in
@@ -46,7 +49,8 @@ decimal_no_byte = record { holds = λ t next n z. no_b t next z.1.value n z.1.sp
 
 number_no_byte : First NoByte Number
 number_no_byte = first_or (first_behind NoByte 43 _ (λ s. refl)) (first_or (first_behind NoByte 45 _ (λ s. refl)) (first_directly
-    (first_or (first_based NoByte 98 2 (λ s. refl)) (first_or (first_based NoByte 111 8 (λ s. refl)) (first_or (first_based NoByte 120 16 (λ s. refl)) decimal_no_byte)))))
+    (first_or (first_based NoByte 98 2 (λ s. refl))
+    (first_or (first_based NoByte 111 8 (λ s. refl)) (first_or (first_based NoByte 120 16 (λ s. refl)) decimal_no_byte)))))
 
 pub word_any_integer : IsWordReader any_integer AnyInteger
 unfolding any_integer
@@ -77,7 +81,10 @@ record MagnitudeEnds (t next : Text) : Type 0 where
   no_base : t ≡ codes "0" → (is_at 111 next ≡ false) × (is_at 120 next ≡ false)
 
 based_ends : (d base : ℕ) (t next : Text) (n : ℕ) → Behind 48 (Behind d (InBase base)) t next n → MagnitudeEnds t next
-based_ends d base t next n z = record { no_digit = z.spelled.spelled.spelled.longest; no_base = λ e. absurd (let k : 48 ∷ d ∷ z.spelled.rest ≡ codes "0" = sym (z.split ∙ ap (λ u. 48 ∷ u) z.spelled.split) ∙ e in cc) }
+based_ends d base t next n z = record {
+  no_digit = z.spelled.spelled.spelled.longest;
+  no_base = λ e. absurd (let k : 48 ∷ d ∷ z.spelled.rest ≡ codes "0" = sym (z.split ∙ ap (λ u. 48 ∷ u) z.spelled.split) ∙ e in cc);
+}
 
 magnitude_ends : (t next : Text) (n : ℕ) → Magnitude t next n → MagnitudeEnds t next
 magnitude_ends t next n (inl z) = based_ends 98 2 t next n z
@@ -129,8 +136,10 @@ signed_ends c t rest next e f h = record { no_digit = h.ends.no_digit; no_suffix
 -- an integer without a sign begins with none
 unsigned_zero : (t next : Text) (n : Numeral) → Unsigned false t next n → IsLoneZero t → t ≡ codes "0"
 unsigned_zero t next n z (inl e) = e
-unsigned_zero t next n z (inr (inl e)) = absurd (let k = (no_sign false 43 refl).holds t next n z in let l : (43 == 43) ≡ false = ap (λ u. is_at 43 (u ++ next)) (sym e) ∙ k in cc)
-unsigned_zero t next n z (inr (inr e)) = absurd (let k = (no_sign false 45 refl).holds t next n z in let l : (45 == 45) ≡ false = ap (λ u. is_at 45 (u ++ next)) (sym e) ∙ k in cc)
+unsigned_zero t next n z (inr (inl e)) =
+    absurd (let k = (no_sign false 43 refl).holds t next n z in let l : (43 == 43) ≡ false = ap (λ u. is_at 43 (u ++ next)) (sym e) ∙ k in cc)
+unsigned_zero t next n z (inr (inr e)) =
+    absurd (let k = (no_sign false 45 refl).holds t next n z in let l : (45 == 45) ≡ false = ap (λ u. is_at 45 (u ++ next)) (sym e) ∙ k in cc)
 
 pub number_ends : (t next : Text) (n : Numeral) → Number t next n → n.suffix ≡ None → NumberEnds t next
 number_ends t next n (inl z) e = signed_ends 43 t z.rest next z.split refl (unsigned_ends false z.rest next n z.spelled e)

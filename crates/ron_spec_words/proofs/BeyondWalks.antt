@@ -1,5 +1,6 @@
 -- Behind whole tokens a look leaves no more bytes than before them.
-use Rattle.std.proofs.Common.{◌≡◌, ℕ, zero, suc, ◌==◌, ◌≤◌, ◌||◌, arith, Bool, true, false, cond, drop, [], ◌∷◌, ◌++◌, codes, Some, inl, inr, eqb-true, append_assoc, refl, sym, ap, ◌∙◌}
+use Rattle.std.proofs.Common.{◌≡◌, ℕ, zero, suc, ◌==◌, ◌≤◌, ◌||◌, arith, Bool, true, false, cond, drop, [], ◌∷◌, ◌++◌, codes, Some, inl, inr, eqb-true}
+use Rattle.std.proofs.Common.{append_assoc, refl, sym, ap, ◌∙◌}
 use Rattle.std.proofs.lemmas.Bool.{and_parts}
 use Rattle.std.proofs.Math.Bool.{or-true}
 use Rattle.unicode_ident.proofs.Computing.{unicode_ident}
@@ -9,7 +10,8 @@ use Rattle.ron_spec_words.specs.Gap.{skip}
 use Rattle.ron_spec_words.specs.Lang.{Or}
 use Rattle.ron_spec_words.specs.Reader.{Got, got, failed, bad, run}
 use Rattle.ron_spec_words.specs.Quoted.{hashes, Raw, String, ByteString, QuotedBytes, RawBytes, string, byte_string, char, byte}
-use Rattle.ron_spec_words.specs.Scan.{starts_gap, opens_string, opens_byte_string, opens_raw_name, starts_run, past_gap, raw_name, past_one, left_by, token, Walk, here, on}
+use Rattle.ron_spec_words.specs.Scan.{starts_gap, opens_string, opens_byte_string, opens_raw_name, starts_run, past_gap, raw_name, past_one, left_by, token}
+use Rattle.ron_spec_words.specs.Scan.{Walk, here, on}
 use Rattle.ron_spec_words.specs.Beyond.{bytes_in, in_look, past_words, past_look, beyond, IsBeyondWalk}
 use Rattle.ron_spec_words.proofs.Gaps.{skip-skip}
 use Rattle.ron_spec_words.proofs.RawStrings.{word_string, word_byte_string}
@@ -36,14 +38,16 @@ run_less : (p : ℕ → Bool) → ((c : ℕ) → p c ≡ true → starts_gap c �
 run_less p clear [] = omega arith
 run_less p clear (c ∷ s) = go (p c) refl (run_less p clear s)
   where
-    go : (b : Bool) → p c ≡ b → bytes_in (past_look (after_run p s)) ≤ bytes_in (past_look s) → bytes_in (past_look (cond b (after_run p s) (c ∷ s))) ≤ bytes_in (past_look (c ∷ s))
+    go : (b : Bool) → p c ≡ b → bytes_in (past_look (after_run p s)) ≤ bytes_in (past_look s)
+        → bytes_in (past_look (cond b (after_run p s) (c ∷ s))) ≤ bytes_in (past_look (c ∷ s))
     go true e h = omega (arith, h, step_less c s (clear c e))
     go false e h = omega arith
 
 raw_clear : (c : ℕ) → in_raw_name c ≡ true → starts_gap c ≡ false
 raw_clear c e = by (c == 46) refl (c == 43) refl (c == 45) refl e
   where
-    by : (x : Bool) → (c == 46) ≡ x → (y : Bool) → (c == 43) ≡ y → (z : Bool) → (c == 45) ≡ z → (((x || y) || z) || continues_name c) ≡ true → starts_gap c ≡ false
+    by : (x : Bool) → (c == 46) ≡ x → (y : Bool) → (c == 43) ≡ y → (z : Bool) → (c == 45) ≡ z → (((x || y) || z) || continues_name c) ≡ true
+        → starts_gap c ≡ false
     by true p y q z r k = rw (eqb-true c 46 p) refl
     by false p true q z r k = rw (eqb-true c 43 q) refl
     by false p false q true r k = rw (eqb-true c 45 r) refl
@@ -136,12 +140,19 @@ at_quote : (s more u : Text) → is_at 39 s ≡ true → s ≡ more ++ u → byt
 at_quote [] more u e f = absurd (cc)
 at_quote (d ∷ s) more u e f =
     let is : d ≡ 39 = eqb-true d 39 e in
-    omega (arith, ap (λ x. bytes_in (past_look (x ∷ s))) is, ap bytes_in (mark_whole 39 s quotes.1 refl), ap (λ x. bytes_in (x ∷ s)) is, size_end more u (d ∷ s) f)
+    omega (
+      arith,
+      ap (λ x. bytes_in (past_look (x ∷ s))) is,
+      ap bytes_in (mark_whole 39 s quotes.1 refl),
+      ap (λ x. bytes_in (x ∷ s)) is,
+      size_end more u (d ∷ s) f,
+    )
 
 over_token : (s u : Text) → token s ≡ Some u → bytes_in (past_look u) ≤ bytes_in (past_look s)
 unfolding token
 over_token [] u k = absurd (cc)
-over_token (c ∷ s) u k = go (starts_gap c) refl (opens_string (c ∷ s)) refl (opens_byte_string (c ∷ s)) refl (c == 39) refl (begins_with (codes "b'") (c ∷ s)) refl (opens_raw_name (c ∷ s)) refl (starts_run c) refl k
+over_token (c ∷ s) u k = go (starts_gap c) refl (opens_string (c ∷ s)) refl (opens_byte_string (c ∷ s)) refl (c == 39) refl (begins_with (codes "b'") (c ∷ s))
+    refl (opens_raw_name (c ∷ s)) refl (starts_run c) refl k
   where
     Less : Type 0
     Less = bytes_in (past_look u) ≤ bytes_in (past_look (c ∷ s))
@@ -158,7 +169,12 @@ over_token (c ∷ s) u k = go (starts_gap c) refl (opens_string (c ∷ s)) refl 
     behind_b : begins_with (codes "b'") (c ∷ s) ≡ true → bytes_in u ≤ bytes_in (past_look (c ∷ s))
     behind_b w =
         let is : c ≡ 98 = eqb-true c 98 (first 98 39 c s w) in
-        omega (arith, ap (λ x. bytes_in (past_look (x ∷ s))) is, ap bytes_in (run_step 98 s letters.1), at_quote s (taken c s u k).more u (second 98 39 c s w) split)
+        omega (
+          arith,
+          ap (λ x. bytes_in (past_look (x ∷ s))) is,
+          ap bytes_in (run_step 98 s letters.1),
+          at_quote s (taken c s u k).more u (second 98 39 c s w) split,
+        )
 
     raw : opens_raw_name (c ∷ s) ≡ true → Less
     raw x =
@@ -167,14 +183,18 @@ over_token (c ∷ s) u k = go (starts_gap c) refl (opens_string (c ∷ s)) refl 
 
     word : starts_gap c ≡ false → starts_run c ≡ true → left_by (run starts_run continues_name (c ∷ s)) ≡ Some u → Less
     word p y z =
-        let end : after_run continues_name s ≡ u = some_same (sym (ap (λ b. left_by (cond b (got (c ∷ run_of continues_name s) (after_run continues_name s)) (failed bad))) y) ∙ z) in
+        let end : after_run continues_name s ≡ u =
+        some_same (sym (ap (λ b. left_by (cond b (got (c ∷ run_of continues_name s) (after_run continues_name s)) (failed bad))) y) ∙ z) in
         omega (arith, ap (λ x. bytes_in (past_look x)) end, run_less continues_name continues_no_gap s, step_less c s p)
 
     one : starts_gap c ≡ false → past_one (c ∷ s) ≡ Some u → Less
     one p z = omega (arith, ap (λ x. bytes_in (past_look x)) (some_same z), step_less c s p)
 
-    go : (a : Bool) → starts_gap c ≡ a → (b : Bool) → opens_string (c ∷ s) ≡ b → (d : Bool) → opens_byte_string (c ∷ s) ≡ d → (f : Bool) → (c == 39) ≡ f → (g : Bool) → begins_with (codes "b'") (c ∷ s) ≡ g → (h : Bool) → opens_raw_name (c ∷ s) ≡ h → (i : Bool) → starts_run c ≡ i
-        → cond a (past_gap (c ∷ s)) (cond b (left_by (string (c ∷ s))) (cond d (left_by (byte_string (c ∷ s))) (cond f (left_by (char (c ∷ s))) (cond g (left_by (byte (c ∷ s))) (cond h (left_by (raw_name (c ∷ s))) (cond i (left_by (run starts_run continues_name (c ∷ s))) (past_one (c ∷ s)))))))) ≡ Some u
+    go : (a : Bool) → starts_gap c ≡ a → (b : Bool) → opens_string (c ∷ s) ≡ b → (d : Bool) → opens_byte_string (c ∷ s) ≡ d → (f : Bool) → (c == 39) ≡ f
+        → (g : Bool) → begins_with (codes "b'") (c ∷ s) ≡ g → (h : Bool) → opens_raw_name (c ∷ s) ≡ h → (i : Bool) → starts_run c ≡ i
+        → cond a (past_gap (c ∷ s)) (cond b (left_by (string (c ∷ s))) (cond d (left_by (byte_string (c ∷ s))) (cond f (left_by (char (c ∷ s)))
+        (cond g (left_by (byte (c ∷ s))) (cond h (left_by (raw_name (c ∷ s))) (cond i (left_by (run starts_run continues_name (c ∷ s))) (past_one (c ∷ s))))))))
+        ≡ Some u
         → Less
     go true p b q d r f v g w h x i y z = over_gap c s u p z
     go false p true q d r f v g w h x i y z = shorter (string_token (c ∷ s) u z)

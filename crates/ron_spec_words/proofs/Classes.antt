@@ -1,5 +1,6 @@
 -- Classes of characters that hold no stop, no blank, no slash and no hash: what a word begins with ends no gap and no value.
-use Rattle.std.proofs.Common.{◌≡◌, ℕ, zero, suc, ◌+◌, ◌≤◌, ◌<◌, ◌==◌, ◌||◌, nat_le, Bool, true, false, ◌∷◌, refl, sym, ap, subst, ◌∙◌, arith, eqb-true, leb-true}
+use Rattle.std.proofs.Common.{◌≡◌, ℕ, zero, suc, ◌+◌, ◌≤◌, ◌<◌, ◌==◌, ◌||◌, nat_le, Bool, true, false, ◌∷◌, refl, sym, ap, subst, ◌∙◌, arith, eqb-true}
+use Rattle.std.proofs.Common.{leb-true}
 use Rattle.std.proofs.lemmas.Bool.{eqb-false}
 use Rattle.std.specs.Int.{is_in_range}
 use Rattle.std.specs.Char.{is_ascii_hexdigit}
@@ -55,7 +56,15 @@ no_stop : (p : ℕ → Bool) → Clear p → (c : ℕ) → p c ≡ true → is_d
 no_stop p h c k = rw (apart p 44 c h.stop.0 k, apart p 58 c h.stop.1 k, apart p 41 c h.stop.2 k, apart p 93 c h.stop.3 k, apart p 125 c h.stop.4 k) refl
 
 pub no_blank : (p : ℕ → Bool) → Clear p → (c : ℕ) → p c ≡ true → is_blank c ≡ false
-no_blank p h c k = rw (not_in_range p 5 9 13 c refl h.range k, apart p 0x20 c h.blank.0 k, apart p 0x85 c h.blank.1 k, apart p 0x200E c h.blank.2 k, apart p 0x200F c h.blank.3 k, apart p 0x2028 c h.blank.4 k, apart p 0x2029 c h.blank.5 k) refl
+no_blank p h c k = rw (
+  not_in_range p 5 9 13 c refl h.range k,
+  apart p 0x20 c h.blank.0 k,
+  apart p 0x85 c h.blank.1 k,
+  apart p 0x200E c h.blank.2 k,
+  apart p 0x200F c h.blank.3 k,
+  apart p 0x2028 c h.blank.4 k,
+  apart p 0x2029 c h.blank.5 k,
+) refl
 
 -- neither a stop nor a gap nor a slash nor a hash begins the text
 abbrev pub Solid : Text → Type 0
@@ -73,10 +82,22 @@ solid_class p h c s k = solid_mark c s (no_stop p h c k) (no_blank p h c k) (rw 
 
 pub solid_name : (c : ℕ) (s : Text) → starts_name c ≡ true → Solid (c ∷ s)
 unfolding unicode_ident
-solid_name c s k = solid_class starts_name (record { stop = (refl, refl, refl, refl, refl); range = (refl, (refl, (refl, (refl, (refl, tt))))); blank = (refl, refl, refl, refl, refl, refl); slash = refl; hash = refl }) c s k
+solid_name c s k = solid_class starts_name (record {
+  stop = (refl, refl, refl, refl, refl);
+  range = (refl, (refl, (refl, (refl, (refl, tt)))));
+  blank = (refl, refl, refl, refl, refl, refl);
+  slash = refl;
+  hash = refl;
+}) c s k
 
 pub solid_hexdigit : (c : ℕ) (s : Text) → is_ascii_hexdigit c ≡ true → Solid (c ∷ s)
-solid_hexdigit c s k = solid_class is_ascii_hexdigit (record { stop = (refl, refl, refl, refl, refl); range = (refl, (refl, (refl, (refl, (refl, tt))))); blank = (refl, refl, refl, refl, refl, refl); slash = refl; hash = refl }) c s k
+solid_hexdigit c s k = solid_class is_ascii_hexdigit (record {
+  stop = (refl, refl, refl, refl, refl);
+  range = (refl, (refl, (refl, (refl, (refl, tt)))));
+  blank = (refl, refl, refl, refl, refl, refl);
+  slash = refl;
+  hash = refl;
+}) c s k
 
 -- `(` begins no name
 pub starts_bracket : starts_name 40 ≡ false

@@ -1,5 +1,6 @@
 -- Words directly beside one another, single characters and fixed words are read exactly: for the rules of shapes.
-use Rattle.std.proofs.Common.{◌≡◌, ℕ, ◌==◌, Bool, true, false, not, cond, drop, length, [], ◌∷◌, ◌++◌, Option, Some, refl, sym, ap, ap₂, subst, ◌∙◌, append_assoc, eqb-true, eq-eqb}
+use Rattle.std.proofs.Common.{◌≡◌, ℕ, ◌==◌, Bool, true, false, not, cond, drop, length, [], ◌∷◌, ◌++◌, Option, Some, refl, sym, ap, ap₂, subst, ◌∙◌}
+use Rattle.std.proofs.Common.{append_assoc, eqb-true, eq-eqb}
 use Rattle.std.proofs.lemmas.Bool.{and_parts, not-true}
 use Rattle.std.proofs.Math.Seq.{drop-append_seam}
 use Rattle.ron_spec_words.specs.Characters.{Text, continues_name}
@@ -12,11 +13,13 @@ use Rattle.ron_spec_words.proofs.Words.{First, sound_like}
 
 -- ---- one directly behind the other
 
-pub and_directly_got : {A B : Type 0} (o : Got A) (q : A → Reader B) (b : B) (rest : Text) → and_directly o q ≡ got b rest → (a : A) × (u : Text) × (o ≡ got a u) × (q a u ≡ got b rest)
+pub and_directly_got : {A B : Type 0} (o : Got A) (q : A → Reader B) (b : B) (rest : Text) → and_directly o q ≡ got b rest
+    → (a : A) × (u : Text) × (o ≡ got a u) × (q a u ≡ got b rest)
 and_directly_got (got a u) q b rest e = (a, u, refl, e)
 and_directly_got (failed f) q b rest e = absurd (cc)
 
-pub sound_directly : {A B : Type 0} (r : Reader A) (q : A → Reader B) (L : Lang A) (M : A → Lang B) → Sound r L → ((a : A) → Sound (q a) (M a)) → Sound (directly r q) (Directly L M)
+pub sound_directly : {A B : Type 0} (r : Reader A) (q : A → Reader B) (L : Lang A) (M : A → Lang B) → Sound r L → ((a : A) → Sound (q a) (M a))
+    → Sound (directly r q) (Directly L M)
 sound_directly r q L M h k s b rest e =
     let z = and_directly_got (r s) q b rest e in
     let x = h s z.0 z.1 z.2 in
@@ -24,28 +27,42 @@ sound_directly r q L M h k s b rest e =
     record {
       stretch = x.stretch ++ y.stretch;
       split = x.split ∙ ap (λ u. x.stretch ++ u) y.split ∙ sym (append_assoc x.stretch y.stretch rest);
-      spelled = record { value = z.0; left = x.stretch; right = y.stretch; split = refl; first = subst (λ u. L x.stretch u z.0) y.split x.spelled; second = y.spelled };
+      spelled = record {
+        value = z.0;
+        left = x.stretch;
+        right = y.stretch;
+        split = refl;
+        first = subst (λ u. L x.stretch u z.0) y.split x.spelled;
+        second = y.spelled;
+      };
     }
 
-pub directly-append : {A B : Type 0} (r : Reader A) (q : A → Reader B) (left right next : Text) (a : A) (b : B) → Answers r left (right ++ next) a → Answers (q a) right next b → directly r q ((left ++ right) ++ next) ≡ got b next
+pub directly-append : {A B : Type 0} (r : Reader A) (q : A → Reader B) (left right next : Text) (a : A) (b : B) → Answers r left (right ++ next) a
+    → Answers (q a) right next b → directly r q ((left ++ right) ++ next) ≡ got b next
 directly-append r q left right next a b x y = rw (append_assoc left right next) (ap (λ o. and_directly o q) x.answer ∙ y.answer)
 
-pub directly_calm : {A B : Type 0} (r : Reader A) (q : A → Reader B) → ((s : Text) → r s ≡ failed deep → ⊥) → ((a : A) (s : Text) → q a s ≡ failed deep → ⊥) → (s : Text) → directly r q s ≡ failed deep → ⊥
+pub directly_calm : {A B : Type 0} (r : Reader A) (q : A → Reader B) → ((s : Text) → r s ≡ failed deep → ⊥) → ((a : A) (s : Text) → q a s ≡ failed deep → ⊥)
+    → (s : Text) → directly r q s ≡ failed deep → ⊥
 directly_calm {A} r q h k s e = go (r s) (h s) e
   where
     go : (o : Got A) → (o ≡ failed deep → ⊥) → and_directly o q ≡ failed deep → ⊥
     go (got a u) n e = k a u e
     go (failed f) n e = n (cc)
 
-pub word_directly : {A B : Type 0} (r : Reader A) (q : A → Reader B) (L : Lang A) (M : A → Lang B) → IsWordReader r L → ((a : A) → IsWordReader (q a) (M a)) → IsWordReader (directly r q) (Directly L M)
+pub word_directly : {A B : Type 0} (r : Reader A) (q : A → Reader B) (L : Lang A) (M : A → Lang B) → IsWordReader r L → ((a : A) → IsWordReader (q a) (M a))
+    → IsWordReader (directly r q) (Directly L M)
 word_directly r q L M h k = record {
   sound = sound_directly r q L M h.sound (λ a. (k a).sound);
-  complete = λ t next b l. record { answer = ap (λ z. directly r q (z ++ next)) l.split ∙ directly-append r q l.left l.right next l.value b (h.complete l.left (l.right ++ next) l.value l.first) ((k l.value).complete l.right next b l.second) };
+  complete = λ t next b l. record {
+    answer = ap (λ z. directly r q (z ++ next)) l.split ∙ directly-append r q l.left l.right next l.value b
+        (h.complete l.left (l.right ++ next) l.value l.first) ((k l.value).complete l.right next b l.second);
+  };
   calm = directly_calm r q h.calm (λ a. (k a).calm);
 }
 
 -- two languages that say the same
-pub word_like : {A : Type 0} {r : Reader A} (L M : Lang A) → ((t next : Text) (a : A) → L t next a → M t next a) → ((t next : Text) (a : A) → M t next a → L t next a) → IsWordReader r L → IsWordReader r M
+pub word_like : {A : Type 0} {r : Reader A} (L M : Lang A) → ((t next : Text) (a : A) → L t next a → M t next a)
+    → ((t next : Text) (a : A) → M t next a → L t next a) → IsWordReader r L → IsWordReader r M
 word_like {r = r} L M to from h = record { sound = sound_like r L M to h.sound; complete = λ t next a l. h.complete t next a (from t next a l); calm = h.calm }
 
 pub first_weaker : {A : Type 0} {L : Lang A} (P Q : Text → Type 0) → ((s : Text) → P s → Q s) → First P L → First Q L
@@ -99,7 +116,11 @@ word_fixed {A} w a = record { sound = to; complete = λ t next b l. record { ans
         go true h k =
             let z = stands-splits w s h in
             let u : drop (length w) s ≡ rest = cc in
-            record { stretch = w; split = z.0 ∙ ap (λ x. w ++ x) u; spelled = record { same = refl; ends = ap (λ x. begins continues_name x) (sym u) ∙ z.1; value = cc } }
+            record {
+              stretch = w;
+              split = z.0 ∙ ap (λ x. w ++ x) u;
+              spelled = record { same = refl; ends = ap (λ x. begins continues_name x) (sym u) ∙ z.1; value = cc };
+            }
         go false h k = absurd (cc)
 
     from : (t next : Text) (b : A) → FixedWord w a t next b → fixed_word w a (t ++ next) ≡ got b next
@@ -116,6 +137,8 @@ stands-run [] (d ∷ s) h = elim (continues_name d) as (λ b. not b ≡ same_tex
 stands-run (c ∷ w) [] h = refl
 stands-run (c ∷ w) (d ∷ s) h = go (d == c) refl (stands-run w s h.1)
   where
-    go : (b : Bool) → (d == c) ≡ b → stands w s ≡ same_text (run_of continues_name s) w → stands (c ∷ w) (d ∷ s) ≡ same_text (run_of continues_name (d ∷ s)) (c ∷ w)
+    go : (b : Bool) → (d == c) ≡ b → stands w s ≡ same_text (run_of continues_name s) w
+        → stands (c ∷ w) (d ∷ s) ≡ same_text (run_of continues_name (d ∷ s)) (c ∷ w)
     go true k e = let same : d ≡ c = eqb-true d c k in let f : continues_name d ≡ true = ap continues_name same ∙ h.0 in rw (k, f) (rw k e)
-    go false k e = rw k (elim (continues_name d) as (λ b. false ≡ same_text (cond b (d ∷ run_of continues_name s) []) (c ∷ w)) [ true ↦ rw k refl | false ↦ refl ])
+    go false k e =
+        rw k (elim (continues_name d) as (λ b. false ≡ same_text (cond b (d ∷ run_of continues_name s) []) (c ∷ w)) [ true ↦ rw k refl | false ↦ refl ])

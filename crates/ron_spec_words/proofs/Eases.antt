@@ -1,6 +1,8 @@
--- What is left beyond the words falls where a call of the cursor moves: over gaps, marks, fixed words, names, literals, integers and ranges, whatever follows them.
+-- What is left beyond the words falls where a call of the cursor moves: over gaps, marks, fixed words, names, literals, integers and ranges, whatever follows
+-- them.
 use Rattle.std.specs.Char.{is_ascii_hexdigit}
-use Rattle.std.proofs.Common.{◌≡◌, ℕ, ◌==◌, ◌≤◌, arith, Bool, true, false, not, [], ◌∷◌, ◌++◌, Some, None, Option, inl, inr, eqb-true, append_assoc, refl, sym, ap, ◌∙◌}
+use Rattle.std.proofs.Common.{◌≡◌, ℕ, ◌==◌, ◌≤◌, arith, Bool, true, false, not, [], ◌∷◌, ◌++◌, Some, None, Option, inl, inr, eqb-true, append_assoc, refl, sym}
+use Rattle.std.proofs.Common.{ap, ◌∙◌}
 use Rattle.ron_spec_words.specs.Characters.{Text}
 use Rattle.ron_spec_words.specs.Runs.{Every, is_at}
 use Rattle.ron_spec_words.specs.Gap.{skip}
@@ -11,7 +13,8 @@ use Rattle.ron_spec_words.specs.Exact.{Sound}
 use Rattle.ron_spec_words.specs.Tokens.{IsOneToken}
 use Rattle.ron_spec_words.specs.Name.{name, untyped_name}
 use Rattle.ron_spec_words.specs.Quoted.{Byte, string, byte_string, char}
-use Rattle.ron_spec_words.specs.Number.{opens_base, Suffix, OptSuffix, suffix_word, i8, i16, i32, i64, i128, u8, u16, u32, u64, u128, in_number, InBase, Magnitude, Numeral, Unsigned, Number}
+use Rattle.ron_spec_words.specs.Number.{opens_base, Suffix, OptSuffix, suffix_word, i8, i16, i32, i64, i128, u8, u16, u32, u64, u128, in_number, InBase}
+use Rattle.ron_spec_words.specs.Number.{Magnitude, Numeral, Unsigned, Number}
 use Rattle.ron_spec_words.specs.AnyInteger.{is_float, AnyInteger, UntypedInteger, any_integer}
 use Rattle.ron_spec_words.specs.Range.{is_open, opens_points, Interval, Points, NumberOrRange, number_or_range}
 use Rattle.ron_spec_words.specs.Scan.{starts_gap, opens_raw_name}
@@ -37,7 +40,8 @@ use Rattle.ron_spec_words.proofs.Far.{continues_no_gap}
 
 -- ---- tokens
 
-of_token : {A : Type 0} (r : Reader A) (L : Lang A) → Sound r L → IsOneToken L → (s : Text) (a : A) (u : Text) → r s ≡ got a u → bytes_in (beyond u) ≤ bytes_in (beyond s)
+of_token : {A : Type 0} (r : Reader A) (L : Lang A) → Sound r L → IsOneToken L → (s : Text) (a : A) (u : Text) → r s ≡ got a u
+    → bytes_in (beyond u) ≤ bytes_in (beyond s)
 of_token r L sound one s a u e =
     let y = sound s a u e in
     omega (arith, ap (λ x. bytes_in (beyond x)) y.split, beyond_token (y.stretch ++ u) u (one y.stretch u a y.spelled))
@@ -180,14 +184,17 @@ eases_untyped_integer : Eases UntypedInteger
 eases_untyped_integer = eases_when (λ s. not (is_float s)) _ eases_any_integer
 
 eases_points : (start : Option Numeral) → Eases (Points start)
-eases_points start = eases_behind 46 _ refl (eases_behind 46 _ refl (eases_or _ _ (eases_behind 61 _ refl (eases_means _ _ eases_untyped_integer)) (eases_or _ _ (eases_means _ _ eases_untyped_integer) (eases_when is_open _ (eases_empty _)))))
+eases_points start = eases_behind 46 _ refl (eases_behind 46 _ refl (eases_or _ _ (eases_behind 61 _ refl (eases_means _ _ eases_untyped_integer))
+    (eases_or _ _ (eases_means _ _ eases_untyped_integer) (eases_when is_open _ (eases_empty _)))))
 
 eases_number_or_range : Eases NumberOrRange
-eases_number_or_range = eases_or _ _ (eases_points None) (eases_directly _ _ eases_untyped_integer (λ n. eases_or _ _ (eases_points (Some n)) (eases_when (λ s. not (opens_points s)) _ (eases_empty _))))
+eases_number_or_range = eases_or _ _ (eases_points None)
+    (eases_directly _ _ eases_untyped_integer (λ n. eases_or _ _ (eases_points (Some n)) (eases_when (λ s. not (opens_points s)) _ (eases_empty _))))
 
 -- ---- as they are read
 
-of_word : {A : Type 0} (r : Reader A) (L : Lang A) → Sound r L → Eases L → First (λ s. is_at 114 s ≡ false) L → (s : Text) (a : A) (u : Text) → r s ≡ got a u → bytes_in (beyond u) ≤ bytes_in (beyond s)
+of_word : {A : Type 0} (r : Reader A) (L : Lang A) → Sound r L → Eases L → First (λ s. is_at 114 s ≡ false) L → (s : Text) (a : A) (u : Text) → r s ≡ got a u
+    → bytes_in (beyond u) ≤ bytes_in (beyond s)
 of_word r L sound eases plain s a u e =
     let y = sound s a u e in
     let first = plain_at (y.stretch ++ u) (plain.holds y.stretch u a y.spelled) in

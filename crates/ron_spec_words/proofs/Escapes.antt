@@ -1,8 +1,10 @@
 -- Escapes are read exactly: for characters and strings here, and for the calls of `ron_lex` that read them.
-use Rattle.std.proofs.Common.{◌≡◌, ℕ, zero, suc, ◌≤◌, ◌==◌, Bool, true, false, ◌&&◌, ◌||◌, cond, length, List, [], ◌∷◌, ◌++◌, codes, chars, Option, Some, None, is_some, inl, inr, refl, sym, ap, subst, ◌∙◌, arith, append_assoc, append-nil}
+use Rattle.std.proofs.Common.{◌≡◌, ℕ, zero, suc, ◌≤◌, ◌==◌, Bool, true, false, ◌&&◌, ◌||◌, cond, length, List, [], ◌∷◌, ◌++◌, codes, chars, Option, Some, None}
+use Rattle.std.proofs.Common.{is_some, inl, inr, refl, sym, ap, subst, ◌∙◌, arith, append_assoc, append-nil}
 use Rattle.std.specs.Str.{is_utf8}
 use Rattle.std.specs.Char.{is_ascii_hexdigit}
-use Rattle.std.proofs.lemmas.Str.{chars-encodes, encodes-chars, scalars-chars, IsUtf8-from_is_utf8, is_utf8-from_IsUtf8, IsUtf8-encode, encode_same, length-encode, len_utf8_bounds}
+use Rattle.std.proofs.lemmas.Str.{chars-encodes, encodes-chars, scalars-chars, IsUtf8-from_is_utf8, is_utf8-from_IsUtf8, IsUtf8-encode, encode_same}
+use Rattle.std.proofs.lemmas.Str.{length-encode, len_utf8_bounds}
 use Rattle.std.proofs.lemmas.Bool.{or_right}
 use lib.Utf8.{scalar, scalars, encode, encodes}
 use Rattle.ron_spec_words.specs.Characters.{Text}
@@ -10,7 +12,9 @@ use Rattle.ron_spec_words.specs.Runs.{is_at, begins_with}
 use Rattle.ron_spec_words.specs.Lang.{Lang, done, Nothing, Run, Behind, Means, Or}
 use Rattle.ron_spec_words.specs.Reader.{deep, got, failed, Reader}
 use Rattle.ron_spec_words.specs.Exact.{Takes, IsWordReader}
-use Rattle.ron_spec_words.specs.Escape.{PlainEscape, plain_escape, escape_meaning, HexByte, hex_byte, HexAscii, hex_ascii, HexBytes, HexCharacter, only_one, character_of, or_else, hex_bytes, hex_character, UnicodeEscape, unicode_escape, Escape, escape, is_line_feed, in_continuation, Continuation, continuation}
+use Rattle.ron_spec_words.specs.Escape.{PlainEscape, plain_escape, escape_meaning, HexByte, hex_byte, HexAscii, hex_ascii, HexBytes, HexCharacter, only_one}
+use Rattle.ron_spec_words.specs.Escape.{character_of, or_else, hex_bytes, hex_character, UnicodeEscape, unicode_escape, Escape, escape, is_line_feed}
+use Rattle.ron_spec_words.specs.Escape.{in_continuation, Continuation, continuation}
 use Rattle.ron_spec_words.proofs.Words.{First, word_run, word_behind, word_choose, word_means, word_mark, first_run, first_behind, first_or}
 use Rattle.ron_spec_words.proofs.Classes.{apart}
 use Rattle.ron_spec_words.proofs.Direct.{word_directly, word_any, and_directly_got, directly_calm, directly-append}
@@ -28,7 +32,8 @@ word_hex_ascii = word_means _ word_hex_byte
 
 pub word_unicode : IsWordReader unicode_escape UnicodeEscape
 unfolding unicode_escape
-word_unicode = word_behind 92 _ _ (word_behind 117 _ _ (word_behind 123 _ _ (word_directly _ _ _ _ (word_means _ (word_run is_ascii_hexdigit is_ascii_hexdigit)) (λ c. word_mark 125 c))))
+word_unicode = word_behind 92 _ _
+    (word_behind 117 _ _ (word_behind 123 _ _ (word_directly _ _ _ _ (word_means _ (word_run is_ascii_hexdigit is_ascii_hexdigit)) (λ c. word_mark 125 c))))
 
 -- ---- the character that bytes form
 
@@ -77,7 +82,14 @@ module _ (bs s : Text) (b : ℕ) (u : Text) (c : ℕ) (rest : Text) (x : Takes H
     stretch = x.stretch;
     bytes = b ∷ [];
     split = x.split ∙ ap (λ z. x.stretch ++ z) e;
-    spelled = record { value = done; left = x.stretch; right = []; split = sym (append-nil x.stretch); first = subst (λ z. HexByte x.stretch z b) e x.spelled; second = refl };
+    spelled = record {
+      value = done;
+      left = x.stretch;
+      right = [];
+      split = sym (append-nil x.stretch);
+      first = subst (λ z. HexByte x.stretch z b) e x.spelled;
+      second = refl;
+    };
     is_character = h;
   }
 
@@ -86,7 +98,14 @@ module _ (bs s : Text) (b : ℕ) (u : Text) (c : ℕ) (rest : Text) (x : Takes H
     stretch = x.stretch ++ y.stretch;
     bytes = b ∷ y.bytes;
     split = x.split ∙ ap (λ z. x.stretch ++ z) y.split ∙ sym (append_assoc x.stretch y.stretch rest);
-    spelled = record { value = done; left = x.stretch; right = y.stretch; split = refl; first = subst (λ z. HexByte x.stretch z b) y.split x.spelled; second = y.spelled };
+    spelled = record {
+      value = done;
+      left = x.stretch;
+      right = y.stretch;
+      split = refl;
+      first = subst (λ z. HexByte x.stretch z b) y.split x.spelled;
+      second = y.spelled;
+    };
     is_character = rw (append_assoc bs (b ∷ []) y.bytes) at y.is_character;
   }
 
@@ -96,38 +115,46 @@ bytes_take (suc n) bs s c rest e =
     let z = and_directly_got (hex_byte s) (λ b. or_else (character_of (bs ++ b ∷ [])) (hex_bytes n (bs ++ b ∷ []))) c rest e in
     go z.0 z.1 (word_hex_byte.sound s z.0 z.1 z.2) (character_of (bs ++ z.0 ∷ [])) refl z.3 (λ k. bytes_take n (bs ++ z.0 ∷ []) z.1 c rest k)
   where
-    go : (b : ℕ) (u : Text) → Takes HexByte s b u → (o : Option ℕ) → character_of (bs ++ b ∷ []) ≡ o → or_else o (hex_bytes n (bs ++ b ∷ [])) u ≡ got c rest → (hex_bytes n (bs ++ b ∷ []) u ≡ got c rest → Formed (bs ++ b ∷ []) u c rest) → Formed bs s c rest
+    go : (b : ℕ) (u : Text) → Takes HexByte s b u → (o : Option ℕ) → character_of (bs ++ b ∷ []) ≡ o → or_else o (hex_bytes n (bs ++ b ∷ [])) u ≡ got c rest
+        → (hex_bytes n (bs ++ b ∷ []) u ≡ got c rest → Formed (bs ++ b ∷ []) u c rest) → Formed bs s c rest
     go b u x (Some d) h k f = let same : d ≡ c = cc in last_byte bs s b u c rest x (cc) (formed (bs ++ b ∷ []) c (h ∙ ap (λ y. Some y) same))
     go b u x None h k f = byte_before bs s b u c rest x (f k)
 
 -- no byte of a character is left out: its UTF-8 does not begin with that of another
 module _ (bs : List ℕ) (b : ℕ) (next : Text) (c : ℕ) where
-  byte_step : (n : ℕ) (t : Text) (ds : List ℕ) (l : HexBytes t next (b ∷ ds)) → or_else (character_of (bs ++ b ∷ [])) (hex_bytes n (bs ++ b ∷ [])) (l.right ++ next) ≡ got c next → hex_bytes (suc n) bs (t ++ next) ≡ got c next
+  byte_step : (n : ℕ) (t : Text) (ds : List ℕ) (l : HexBytes t next (b ∷ ds))
+      → or_else (character_of (bs ++ b ∷ [])) (hex_bytes n (bs ++ b ∷ [])) (l.right ++ next) ≡ got c next → hex_bytes (suc n) bs (t ++ next) ≡ got c next
   byte_step n t ds l e =
       ap (λ z. hex_bytes (suc n) bs (z ++ next)) l.split
-      ∙ directly-append hex_byte (λ b. or_else (character_of (bs ++ b ∷ [])) (hex_bytes n (bs ++ b ∷ []))) l.left l.right next b c (word_hex_byte.complete l.left (l.right ++ next) b l.first) (record { answer = e })
+      ∙ directly-append hex_byte (λ b. or_else (character_of (bs ++ b ∷ [])) (hex_bytes n (bs ++ b ∷ []))) l.left l.right next b c
+      (word_hex_byte.complete l.left (l.right ++ next) b l.first) (record { answer = e })
 
-  byte_more : (n : ℕ) (d : ℕ) (ds : List ℕ) (u : Text) → IsCharacter (bs ++ b ∷ d ∷ ds) c → hex_bytes n (bs ++ b ∷ []) (u ++ next) ≡ got c next → or_else (character_of (bs ++ b ∷ [])) (hex_bytes n (bs ++ b ∷ [])) (u ++ next) ≡ got c next
+  byte_more : (n : ℕ) (d : ℕ) (ds : List ℕ) (u : Text) → IsCharacter (bs ++ b ∷ d ∷ ds) c → hex_bytes n (bs ++ b ∷ []) (u ++ next) ≡ got c next
+      → or_else (character_of (bs ++ b ∷ [])) (hex_bytes n (bs ++ b ∷ [])) (u ++ next) ≡ got c next
   byte_more n d ds u h e = go (character_of (bs ++ b ∷ [])) refl
     where
       go : (o : Option ℕ) → character_of (bs ++ b ∷ []) ≡ o → or_else o (hex_bytes n (bs ++ b ∷ [])) (u ++ next) ≡ got c next
       go (Some x) k =
           let f = formed (bs ++ b ∷ []) x k in
-          let q = encode_same x c (d ∷ ds) [] (ap (λ z. z ++ (d ∷ ds)) f.bytes ∙ append_assoc bs (b ∷ []) (d ∷ ds) ∙ sym h.bytes ∙ sym (append-nil (encode c))) in
+          let q =
+          encode_same x c (d ∷ ds) [] (ap (λ z. z ++ (d ∷ ds)) f.bytes ∙ append_assoc bs (b ∷ []) (d ∷ ds) ∙ sym h.bytes ∙ sym (append-nil (encode c))) in
           let r : d ∷ ds ≡ [] = q.1 in
           absurd (cc)
       go None k = e
 
-bytes_at : (ds : List ℕ) (b n : ℕ) (bs t next : Text) (c : ℕ) → IsCharacter (bs ++ b ∷ ds) c → length ds ≤ n → HexBytes t next (b ∷ ds) → hex_bytes (suc n) bs (t ++ next) ≡ got c next
+bytes_at : (ds : List ℕ) (b n : ℕ) (bs t next : Text) (c : ℕ) → IsCharacter (bs ++ b ∷ ds) c → length ds ≤ n → HexBytes t next (b ∷ ds)
+    → hex_bytes (suc n) bs (t ++ next) ≡ got c next
 bytes_at [] b n bs t next c h m l = byte_step bs b next c n t [] l (rw (forms (bs ++ b ∷ []) c h, l.second) refl)
 bytes_at (d ∷ ds) b zero bs t next c h m l = absurd (omega (arith, m))
 bytes_at (d ∷ ds) b (suc n) bs t next c h m l =
     let k : IsCharacter ((bs ++ b ∷ []) ++ d ∷ ds) c = rw (append_assoc bs (b ∷ []) (d ∷ ds)) h in
-    byte_step bs b next c (suc n) t (d ∷ ds) l (byte_more bs b next c (suc n) d ds l.right h (bytes_at ds d n (bs ++ b ∷ []) l.right next c k (omega (arith, m)) l.second))
+    byte_step bs b next c (suc n) t (d ∷ ds) l
+    (byte_more bs b next c (suc n) d ds l.right h (bytes_at ds d n (bs ++ b ∷ []) l.right next c k (omega (arith, m)) l.second))
 
 bytes_calm : (n : ℕ) (bs s : Text) → hex_bytes n bs s ≡ failed deep → ⊥
 bytes_calm zero bs s e = cc
-bytes_calm (suc n) bs s e = directly_calm hex_byte (λ b. or_else (character_of (bs ++ b ∷ [])) (hex_bytes n (bs ++ b ∷ []))) word_hex_byte.calm (λ b u. go b u (character_of (bs ++ b ∷ [])) (bytes_calm n (bs ++ b ∷ []) u)) s e
+bytes_calm (suc n) bs s e = directly_calm hex_byte (λ b. or_else (character_of (bs ++ b ∷ [])) (hex_bytes n (bs ++ b ∷ []))) word_hex_byte.calm
+    (λ b u. go b u (character_of (bs ++ b ∷ [])) (bytes_calm n (bs ++ b ∷ []) u)) s e
   where
     go : (b : ℕ) (u : Text) (o : Option ℕ) → (hex_bytes n (bs ++ b ∷ []) u ≡ failed deep → ⊥) → or_else o (hex_bytes n (bs ++ b ∷ [])) u ≡ failed deep → ⊥
     go b u (Some d) f k = cc
@@ -145,14 +172,24 @@ first_byte c = go (encode c) refl
   where
     go : (bs : List ℕ) → encode c ≡ bs → FirstByte c
     go [] e = absurd (let m : length (encode c) ≡ 0 = ap length e in omega (arith, m, length-encode c, len_utf8_bounds c))
-    go (b ∷ bs) e = record { byte = b; others = bs; same = e; few = let m : length (encode c) ≡ suc (length bs) = ap length e in omega (arith, m, length-encode c, (len_utf8_bounds c).1) }
+    go (b ∷ bs) e = record {
+      byte = b;
+      others = bs;
+      same = e;
+      few = let m : length (encode c) ≡ suc (length bs) = ap length e in omega (arith, m, length-encode c, (len_utf8_bounds c).1);
+    }
 
 pub word_hex_character : IsWordReader hex_character HexCharacter
 unfolding hex_character
 word_hex_character = record { sound = to; complete = λ t next c l. record { answer = from t next c l (first_byte c) }; calm = λ s e. bytes_calm 4 [] s e }
   where
     to : (s : Text) (c : ℕ) (rest : Text) → hex_character s ≡ got c rest → Takes HexCharacter s c rest
-    to s c rest e = let y = bytes_take 4 [] s c rest e in record { stretch = y.stretch; split = y.split; spelled = (y.is_character.is_scalar, subst (HexBytes y.stretch rest) (sym y.is_character.bytes) y.spelled) }
+    to s c rest e = let y = bytes_take 4 [] s c rest e in
+        record {
+          stretch = y.stretch;
+          split = y.split;
+          spelled = (y.is_character.is_scalar, subst (HexBytes y.stretch rest) (sym y.is_character.bytes) y.spelled);
+        }
 
     from : (t next : Text) (c : ℕ) → HexCharacter t next c → FirstByte c → hex_character (t ++ next) ≡ got c next
     from t next c l f = bytes_at f.others f.byte 3 [] t next c (record { is_scalar = l.0; bytes = f.same }) f.few (subst (HexBytes t next) f.same l.1)
@@ -180,7 +217,8 @@ pub escaped_means : {A B : Type 0} {p : ℕ → Bool} {L : Lang A} {f : A → Op
 escaped_means h = record { holds = λ t next b z. h.holds t next z.value z.spelled }
 
 pub escaped_weaker : {A : Type 0} {L : Lang A} (p q : ℕ → Bool) → ((c : ℕ) → p c ≡ true → q c ≡ true) → AllEscaped p L → AllEscaped q L
-escaped_weaker p q k h = record { holds = λ t next a l. let y = h.holds t next a l in record { mark = y.mark; rest = y.rest; same = y.same; of_class = k y.mark y.of_class } }
+escaped_weaker p q k h =
+    record { holds = λ t next a l. let y = h.holds t next a l in record { mark = y.mark; rest = y.rest; same = y.same; of_class = k y.mark y.of_class } }
 
 abbrev pub is_x : ℕ → Bool
 is_x c = c == 120
@@ -195,10 +233,14 @@ pub escaped_byte : AllEscaped is_x HexByte
 escaped_byte = record { holds = λ t next a z. record { mark = 120; rest = z.spelled.rest; same = z.split ∙ ap (λ x. 92 ∷ x) z.spelled.split; of_class = refl } }
 
 pub escaped_unicode : AllEscaped is_u UnicodeEscape
-escaped_unicode = record { holds = λ t next a z. record { mark = 117; rest = z.spelled.rest; same = z.split ∙ ap (λ x. 92 ∷ x) z.spelled.split; of_class = refl } }
+escaped_unicode =
+    record { holds = λ t next a z. record { mark = 117; rest = z.spelled.rest; same = z.split ∙ ap (λ x. 92 ∷ x) z.spelled.split; of_class = refl } }
 
 pub escaped_plain : AllEscaped is_plain PlainEscape
-escaped_plain = record { holds = λ t next a z. record { mark = z.spelled.value; rest = []; same = z.split ∙ ap (λ x. 92 ∷ x) z.spelled.spelled; of_class = ap is_some z.spelled.meant } }
+escaped_plain = record {
+  holds =
+      λ t next a z. record { mark = z.spelled.value; rest = []; same = z.split ∙ ap (λ x. 92 ∷ x) z.spelled.spelled; of_class = ap is_some z.spelled.meant };
+}
 
 pub escaped_character : AllEscaped is_x HexCharacter
 escaped_character = record { holds = λ t next c l. at t next c (first_byte c) l.1 }
@@ -209,7 +251,8 @@ escaped_character = record { holds = λ t next c l. at t next c (first_byte c) l
         let y = escaped_byte.holds z.left (z.right ++ next) f.byte z.first in
         record { mark = y.mark; rest = y.rest ++ z.right; same = z.split ∙ ap (λ x. x ++ z.right) y.same; of_class = y.of_class }
 
-pub first_escaped : {A : Type 0} {L : Lang A} {p : ℕ → Bool} (P : Text → Type 0) → ((c : ℕ) (s : Text) → p c ≡ true → P (92 ∷ c ∷ s)) → AllEscaped p L → First P L
+pub first_escaped : {A : Type 0} {L : Lang A} {p : ℕ → Bool} (P : Text → Type 0) → ((c : ℕ) (s : Text) → p c ≡ true → P (92 ∷ c ∷ s)) → AllEscaped p L
+    → First P L
 first_escaped P k h = record { holds = λ t next a l. let y = h.holds t next a l in rw y.same (k y.mark (y.rest ++ next) y.of_class) }
 
 -- behind the backslash stands n, where the class holds n alone; where it does not hold n, n does not stand there
@@ -221,7 +264,8 @@ not_marked n p e h = first_escaped (λ s. begins_with (92 ∷ n ∷ []) s ≡ fa
 
 -- ---- escapes
 
-pub word_escape : {hex unicode : Reader ℕ} {Hex Unicode : Lang ℕ} → AllEscaped is_x Hex → AllEscaped is_u Unicode → IsWordReader hex Hex → IsWordReader unicode Unicode → IsWordReader (escape hex unicode) (Escape Hex Unicode)
+pub word_escape : {hex unicode : Reader ℕ} {Hex Unicode : Lang ℕ} → AllEscaped is_x Hex → AllEscaped is_u Unicode → IsWordReader hex Hex
+    → IsWordReader unicode Unicode → IsWordReader (escape hex unicode) (Escape Hex Unicode)
 word_escape x u h k =
     word_choose (begins_with (codes "\\x")) (marked 120 x) (first_or (not_marked 120 is_u refl u) (not_marked 120 is_plain refl escaped_plain)) h
     (word_choose (begins_with (codes "\\u")) (marked 117 u) (not_marked 117 is_plain refl escaped_plain) k word_plain_escape)
@@ -232,14 +276,16 @@ is_mark c = is_x c || (is_u c || is_plain c)
 
 pub escaped_escape : {Hex Unicode : Lang ℕ} → AllEscaped is_x Hex → AllEscaped is_u Unicode → AllEscaped is_mark (Escape Hex Unicode)
 escaped_escape x u = escaped_or (escaped_weaker is_x is_mark (λ c k. rw k refl) x)
-    (escaped_or (escaped_weaker is_u is_mark (λ c k. or_right (is_x c) _ (rw k refl)) u) (escaped_weaker is_plain is_mark (λ c k. or_right (is_x c) _ (or_right (is_u c) _ k)) escaped_plain))
+    (escaped_or (escaped_weaker is_u is_mark (λ c k. or_right (is_x c) _ (rw k refl)) u)
+    (escaped_weaker is_plain is_mark (λ c k. or_right (is_x c) _ (or_right (is_u c) _ k)) escaped_plain))
 
 pub escaped_nothing : {p : ℕ → Bool} → AllEscaped p (Nothing {A = ℕ})
 escaped_nothing = record { holds = λ t next a z. absurd z }
 
 pub word_continuation : IsWordReader continuation Continuation
 unfolding continuation
-word_continuation = word_means _ (word_behind 92 _ _ (word_choose (is_at 13) (first_behind _ 13 _ (λ s. refl)) (first_run _ is_line_feed in_continuation (λ c s k. apart is_line_feed 13 c refl k))
+word_continuation = word_means _ (word_behind 92 _ _ (word_choose (is_at 13) (first_behind _ 13 _ (λ s. refl))
+    (first_run _ is_line_feed in_continuation (λ c s k. apart is_line_feed 13 c refl k))
     (word_behind 13 _ _ (word_run is_line_feed in_continuation))
     (word_run is_line_feed in_continuation)))
 

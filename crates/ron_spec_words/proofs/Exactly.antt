@@ -1,5 +1,6 @@
 -- A reader function made of reader functions is exact for the language made of their languages.
-use Rattle.std.proofs.Common.{◌≡◌, ℕ, zero, suc, ◌≤◌, ◌<◌, ◌==◌, nat_le, Bool, true, false, not, cond, List, [], ◌∷◌, ◌++◌, length, inl, inr, Option, Some, refl, sym, ap, subst, ◌∙◌, append_assoc, arith, eqb-true, eq-eqb, length-append, leb-true, le-leb}
+use Rattle.std.proofs.Common.{◌≡◌, ℕ, zero, suc, ◌≤◌, ◌<◌, ◌==◌, nat_le, Bool, true, false, not, cond, List, [], ◌∷◌, ◌++◌, length, inl, inr, Option, Some}
+use Rattle.std.proofs.Common.{refl, sym, ap, subst, ◌∙◌, append_assoc, arith, eqb-true, eq-eqb, length-append, leb-true, le-leb}
 use Rattle.std.proofs.lemmas.Option.{same_Some}
 use Rattle.ron_spec_words.specs.Characters.{Text}
 use Rattle.ron_spec_words.specs.Runs.{is_at}
@@ -103,7 +104,9 @@ after_gap_at q gap s g n = rw (skip-append gap s g, gap_of-append gap s g, n) re
 pub after_got : {A : Type 0} (q : Text → Reader A) (s : Text) (a : A) (rest : Text) → after_gap q s ≡ got a rest → q (gap_of s) (skip s) ≡ got a rest
 after_got q s a rest = elim (is_at 47 (skip s)) as (λ b. cond b (failed bad) (q (gap_of s) (skip s)) ≡ got a rest → q (gap_of s) (skip s) ≡ got a rest) [ true ↦ λ e. absurd (cc) | false ↦ λ e. e ]
 
-then_answers : {A B : Type 0} (r : Reader A) (q : A → Text → Reader B) (a : A) (b : B) (left gap right next : Text) → Answers r left (gap ++ (right ++ next)) a → LongGap gap (right ++ next) → is_at 47 (right ++ next) ≡ false → Answers (q a gap) right next b → Answers (in_sequence r q) (left ++ (gap ++ right)) next b
+then_answers : {A B : Type 0} (r : Reader A) (q : A → Text → Reader B) (a : A) (b : B) (left gap right next : Text) → Answers r left (gap ++ (right ++ next)) a
+    → LongGap gap (right ++ next) → is_at 47 (right ++ next) ≡ false → Answers (q a gap) right next b
+    → Answers (in_sequence r q) (left ++ (gap ++ right)) next b
 then_answers r q a b left gap right next x g n y =
     record { answer = ap (λ z. and_then (r z) q) (three left gap right next) ∙ ap (λ o. and_then o q) x.answer ∙ after_gap_at (q a) gap (right ++ next) g n ∙ y.answer }
 
@@ -167,7 +170,11 @@ is_at_other c d (b ∷ s) h e = ap (λ a. a == d) (eqb-true b c h) ∙ e
 -- ---- a comma or nothing, where no comma follows
 
 pub exact_opt_comma : {A : Type 0} (a : A) → Exact (opt_comma a) (OptComma a) (Before 41)
-exact_opt_comma {A} a = record { sound = sound_like _ _ _ (without_test (is_at 44) (λ s. not (is_at 44 s)) (Mark 44 a) (Empty a)) (sound_pick (is_at 44) (mark 44 a) (give a) (Mark 44 a) (Empty a) (word_mark 44 a).sound (exact_give a Anything).sound); complete = from }
+exact_opt_comma {A} a = record {
+  sound = sound_like _ _ _ (without_test (is_at 44) (λ s. not (is_at 44 s)) (Mark 44 a) (Empty a))
+      (sound_pick (is_at 44) (mark 44 a) (give a) (Mark 44 a) (Empty a) (word_mark 44 a).sound (exact_give a Anything).sound);
+  complete = from;
+}
   where
     from : Complete (opt_comma a) (OptComma a) (Before 41)
     from t next b (inl h) f n = answers_left (is_at 44) (mark 44 a) (give a) t next b (rw h.0 refl) ((word_mark 44 a).complete t next b h)

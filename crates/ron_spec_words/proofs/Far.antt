@@ -1,5 +1,6 @@
 -- Behind whole tokens a look for a name leaves no more than before them.
-use Rattle.std.proofs.Common.{◌≡◌, ℕ, suc, ◌==◌, ◌≤◌, ◌<◌, length, length-append, arith, Bool, true, false, not, ◌&&◌, ◌||◌, cond, drop, [], ◌∷◌, ◌++◌, codes, Some, inl, inr, eqb-true, refl, sym, ap, ◌∙◌}
+use Rattle.std.proofs.Common.{◌≡◌, ℕ, suc, ◌==◌, ◌≤◌, ◌<◌, length, length-append, arith, Bool, true, false, not, ◌&&◌, ◌||◌, cond, drop, [], ◌∷◌, ◌++◌, codes}
+use Rattle.std.proofs.Common.{Some, inl, inr, eqb-true, refl, sym, ap, ◌∙◌}
 use Rattle.std.proofs.lemmas.Bool.{and_parts, or_parts, not-true}
 use Rattle.std.proofs.Math.Bool.{or-true}
 use Rattle.unicode_ident.proofs.Computing.{unicode_ident}
@@ -9,7 +10,8 @@ use Rattle.ron_spec_words.specs.Gap.{skip}
 use Rattle.ron_spec_words.specs.Lang.{Or}
 use Rattle.ron_spec_words.specs.Reader.{Got, got, failed, bad, run}
 use Rattle.ron_spec_words.specs.Quoted.{QuotedBytes, RawBytes, ByteString, string, byte_string, char, byte}
-use Rattle.ron_spec_words.specs.Scan.{starts_gap, is_hash, opens_raw, opens_string, opens_byte_string, opens_raw_name, starts_run, past_gap, raw_name, past_one, left_by, token, Walk, here, on}
+use Rattle.ron_spec_words.specs.Scan.{starts_gap, is_hash, opens_raw, opens_string, opens_byte_string, opens_raw_name, starts_run, past_gap, raw_name, past_one}
+use Rattle.ron_spec_words.specs.Scan.{left_by, token, Walk, here, on}
 use Rattle.ron_spec_words.specs.Far.{left_from, left_behind, far, IsFarWalk}
 use Rattle.ron_spec_words.proofs.Gaps.{skip-skip, length-skip}
 use Rattle.ron_spec_words.proofs.Direct.{begins-drop}
@@ -24,7 +26,8 @@ left_most s = elim (is_at 47 s) as (λ b. cond b 0 (length s) ≤ length s) [ tr
 
 pub run_most : (p : ℕ → Bool) (s : Text) → length (after_run p s) ≤ length s
 run_most p [] = omega arith
-run_most p (c ∷ s) = let k = run_most p s in elim (p c) as (λ b. length (cond b (after_run p s) (c ∷ s)) ≤ suc (length s)) [ true ↦ omega (arith, k) | false ↦ omega arith ]
+run_most p (c ∷ s) = let k = run_most p s in
+    elim (p c) as (λ b. length (cond b (after_run p s) (c ∷ s)) ≤ suc (length s)) [ true ↦ omega (arith, k) | false ↦ omega arith ]
 
 behind_most : (p : ℕ → Bool) (s : Text) → left_behind p s ≤ length s
 unfolding left_behind
@@ -110,14 +113,17 @@ hashes_marked (c ∷ s) e = go (c == 35) refl e
 -- ---- behind a token that begins with a name's character
 
 -- the token of such a run
-over_run : (c : ℕ) (s u : Text) → continues_name c ≡ true → left_by (run starts_run continues_name (c ∷ s)) ≡ Some u → left_behind continues_name u ≤ left_behind continues_name (c ∷ s)
+over_run : (c : ℕ) (s u : Text) → continues_name c ≡ true → left_by (run starts_run continues_name (c ∷ s)) ≡ Some u
+    → left_behind continues_name u ≤ left_behind continues_name (c ∷ s)
 over_run c s u e k =
     let starts : starts_run c ≡ true = rw e (or-true (starts_name c)) in
-    let rest : after_run continues_name s ≡ u = some_same (sym (ap (λ b. left_by (cond b (got (c ∷ run_of continues_name s) (after_run continues_name s)) (failed bad))) starts) ∙ k) in
+    let rest : after_run continues_name s ≡ u =
+    some_same (sym (ap (λ b. left_by (cond b (got (c ∷ run_of continues_name s) (after_run continues_name s)) (failed bad))) starts) ∙ k) in
     omega (arith, ap (left_behind continues_name) rest, behind_run continues_name s, behind_step continues_name c s e)
 
 -- one such character and a mark
-over_one : (c : ℕ) (s u : Text) → continues_name c ≡ true → begins is_mark s ≡ true → length u < length (c ∷ s) → left_behind continues_name u ≤ left_behind continues_name (c ∷ s)
+over_one : (c : ℕ) (s u : Text) → continues_name c ≡ true → begins is_mark s ≡ true → length u < length (c ∷ s)
+    → left_behind continues_name u ≤ left_behind continues_name (c ∷ s)
 over_one c s u e m lt = omega (arith, behind_step continues_name c s e, mark_all s m, behind_most continues_name u, lt)
 
 r_continues : continues_name 114 ≡ true
@@ -125,7 +131,8 @@ unfolding unicode_ident
 r_continues = refl
 
 -- `br` and a mark
-over_two : (c : ℕ) (s u : Text) → continues_name c ≡ true → is_at 114 s ≡ true → begins is_mark (drop 1 s) ≡ true → suc (length u) < length (c ∷ s) → left_behind continues_name u ≤ left_behind continues_name (c ∷ s)
+over_two : (c : ℕ) (s u : Text) → continues_name c ≡ true → is_at 114 s ≡ true → begins is_mark (drop 1 s) ≡ true → suc (length u) < length (c ∷ s)
+    → left_behind continues_name u ≤ left_behind continues_name (c ∷ s)
 over_two c [] u e r m lt = absurd (cc)
 over_two c (d ∷ s) u e r m lt =
     let d_continues : continues_name d ≡ true = at_class continues_name 114 (d ∷ s) r_continues r in
@@ -160,7 +167,8 @@ second b d c (f ∷ s) e = (and_parts (f == d) true (and_parts (c == b) ((f == d
 
 over_name : (c : ℕ) (s u : Text) → continues_name c ≡ true → token (c ∷ s) ≡ Some u → left_behind continues_name u ≤ left_behind continues_name (c ∷ s)
 unfolding token
-over_name c s u e k = go (starts_gap c) refl (opens_string (c ∷ s)) refl (opens_byte_string (c ∷ s)) refl (c == 39) refl (begins_with (codes "b'") (c ∷ s)) refl (opens_raw_name (c ∷ s)) refl (starts_run c) refl k
+over_name c s u e k = go (starts_gap c) refl (opens_string (c ∷ s)) refl (opens_byte_string (c ∷ s)) refl (c == 39) refl (begins_with (codes "b'") (c ∷ s)) refl
+    (opens_raw_name (c ∷ s)) refl (starts_run c) refl k
   where
     lt : length u < length (c ∷ s)
     lt = let f = taken c s u k in omega (arith, ap length f.split, length-append f.more u)
@@ -178,8 +186,11 @@ over_name c s u e k = go (starts_gap c) refl (opens_string (c ∷ s)) refl (open
     bytes two true q h = over_one c s u e (at_class is_mark 34 s marks.0 q) lt
     bytes two false q h = let z = and_parts (is_at 114 s) _ h in over_two c s u e z.0 (hashes_marked (drop 1 s) z.1) two
 
-    go : (a : Bool) → starts_gap c ≡ a → (b : Bool) → opens_string (c ∷ s) ≡ b → (d : Bool) → opens_byte_string (c ∷ s) ≡ d → (f : Bool) → (c == 39) ≡ f → (g : Bool) → begins_with (codes "b'") (c ∷ s) ≡ g → (h : Bool) → opens_raw_name (c ∷ s) ≡ h → (i : Bool) → starts_run c ≡ i
-        → cond a (past_gap (c ∷ s)) (cond b (left_by (string (c ∷ s))) (cond d (left_by (byte_string (c ∷ s))) (cond f (left_by (char (c ∷ s))) (cond g (left_by (byte (c ∷ s))) (cond h (left_by (raw_name (c ∷ s))) (cond i (left_by (run starts_run continues_name (c ∷ s))) (past_one (c ∷ s)))))))) ≡ Some u
+    go : (a : Bool) → starts_gap c ≡ a → (b : Bool) → opens_string (c ∷ s) ≡ b → (d : Bool) → opens_byte_string (c ∷ s) ≡ d → (f : Bool) → (c == 39) ≡ f
+        → (g : Bool) → begins_with (codes "b'") (c ∷ s) ≡ g → (h : Bool) → opens_raw_name (c ∷ s) ≡ h → (i : Bool) → starts_run c ≡ i
+        → cond a (past_gap (c ∷ s)) (cond b (left_by (string (c ∷ s))) (cond d (left_by (byte_string (c ∷ s))) (cond f (left_by (char (c ∷ s)))
+        (cond g (left_by (byte (c ∷ s))) (cond h (left_by (raw_name (c ∷ s))) (cond i (left_by (run starts_run continues_name (c ∷ s))) (past_one (c ∷ s))))))))
+        ≡ Some u
         → Far
     go true p b q d r f v g w h x i y z = absurd (let n : true ≡ false = sym p ∙ continues_no_gap c e in cc)
     go false p true q d r f v g w h x i y z = at_string q
@@ -197,8 +208,10 @@ over_gap c s u g k =
     let same : skip (c ∷ s) ≡ u = past_gap_is (c ∷ s) u (sym (gap_is c s g) ∙ k) in
     omega (arith, word_most u (ap skip (sym same) ∙ skip-skip (c ∷ s) ∙ same), ap left_from same, behind_here continues_name (c ∷ s) (gap_no_run c g))
 
-over_mark : (c : ℕ) (s u : Text) → continues_name c ≡ false → starts_gap c ≡ false → token (c ∷ s) ≡ Some u → left_behind continues_name u ≤ left_behind continues_name (c ∷ s)
-over_mark c s u e g k = let f = taken c s u k in omega (arith, mark_all (c ∷ s) (rw (e, g) refl), behind_most continues_name u, ap length f.split, length-append f.more u)
+over_mark : (c : ℕ) (s u : Text) → continues_name c ≡ false → starts_gap c ≡ false → token (c ∷ s) ≡ Some u
+    → left_behind continues_name u ≤ left_behind continues_name (c ∷ s)
+over_mark c s u e g k = let f = taken c s u k in
+    omega (arith, mark_all (c ∷ s) (rw (e, g) refl), behind_most continues_name u, ap length f.split, length-append f.more u)
 
 no_token : (u : Text) → token [] ≡ Some u → ⊥
 unfolding token
@@ -232,7 +245,8 @@ raw_at s e = let k = and_parts (begins_with (codes "r#") s) (begins in_raw_name 
 -- a look at it leaves less than one that takes it for `r`
 raw_less : (s : Text) → RawAt s → left_behind in_raw_name (drop 2 s) ≤ left_behind continues_name s
 raw_less s r =
-    let as_r : left_behind continues_name s ≡ suc (suc (length r.more)) = ap (left_behind continues_name) r.is ∙ behind_step continues_name 114 (35 ∷ r.first ∷ r.more) r_continues ∙ mark_all (35 ∷ r.first ∷ r.more) marks.1 in
+    let as_r : left_behind continues_name s ≡ suc (suc (length r.more)) =
+    ap (left_behind continues_name) r.is ∙ behind_step continues_name 114 (35 ∷ r.first ∷ r.more) r_continues ∙ mark_all (35 ∷ r.first ∷ r.more) marks.1 in
     let size : length (drop 2 s) ≡ suc (length r.more) = ap (λ z. length (drop 2 z)) r.is in
     omega (arith, behind_most in_raw_name (drop 2 s), as_r, size)
 
@@ -252,7 +266,8 @@ raw_ends (c ∷ s) = go (in_raw_name c) refl (raw_ends s)
     none e false h = refl
     none e true h = absurd (let z : false ≡ true = sym e ∙ rw h (or-true ((c == 46) || (c == 43) || (c == 45))) in cc)
 
-    go : (b : Bool) → in_raw_name c ≡ b → begins continues_name (after_run in_raw_name s) ≡ false → begins continues_name (cond b (after_run in_raw_name s) (c ∷ s)) ≡ false
+    go : (b : Bool) → in_raw_name c ≡ b → begins continues_name (after_run in_raw_name s) ≡ false
+        → begins continues_name (cond b (after_run in_raw_name s) (c ∷ s)) ≡ false
     go true e h = h
     go false e h = none e (continues_name c) refl
 
@@ -263,7 +278,8 @@ raw_left s = behind_here continues_name (after_run in_raw_name s) (raw_ends s)
 pub raw_token : (s u : Text) → RawAt s → token s ≡ Some u → u ≡ after_run in_raw_name (drop 2 s)
 raw_token s u r k =
     let reads : left_by (raw_name (114 ∷ 35 ∷ r.first ∷ r.more)) ≡ Some (after_run in_raw_name r.more) = rw r.in_name refl in
-    let ends : after_run in_raw_name (drop 2 s) ≡ after_run in_raw_name r.more = ap (λ z. after_run in_raw_name (drop 2 z)) r.is ∙ ap (λ b. cond b (after_run in_raw_name r.more) (r.first ∷ r.more)) r.in_name in
+    let ends : after_run in_raw_name (drop 2 s) ≡ after_run in_raw_name r.more =
+    ap (λ z. after_run in_raw_name (drop 2 z)) r.is ∙ ap (λ b. cond b (after_run in_raw_name r.more) (r.first ∷ r.more)) r.in_name in
     some_same (sym k ∙ ap token r.is ∙ raw_three r.first r.more r.in_name ∙ reads) ∙ sym ends
 
 far_token : (s u : Text) → token s ≡ Some u → far u ≤ far s

@@ -28,7 +28,8 @@ left_is (got a u) rest e = let same : u ≡ rest = cc in (a, ap (got a) same)
 left_is (failed f) rest e = absurd (cc)
 
 -- what a word's reader function leaves, where no word is empty
-word_front : {A : Type 0} (r : Reader A) (L : Lang A) → IsWordReader r L → ((t next : Text) (a : A) → L t next a → t ≡ [] → ⊥) → (s rest : Text) → left_by (r s) ≡ Some rest → Front s rest
+word_front : {A : Type 0} (r : Reader A) (L : Lang A) → IsWordReader r L → ((t next : Text) (a : A) → L t next a → t ≡ [] → ⊥) → (s rest : Text)
+    → left_by (r s) ≡ Some rest → Front s rest
 word_front r L h some s rest e =
     let k = left_is (r s) rest e in
     let x = h.sound s k.0 rest k.1 in
@@ -53,7 +54,8 @@ gap_front s rest e = go (nat_lt (length (skip s)) (length s)) refl e
     go true h k =
         let same : skip s ≡ rest = cc in
         let lt = ltb-true (length (skip s)) (length s) h in
-        front_of s (gap_of s) rest ((cut s).split ∙ ap (λ u. gap_of s ++ u) same) (λ n. let z : length s ≡ length (skip s) = ap length ((cut s).split ∙ ap (λ u. u ++ skip s) n) in omega (arith, z, lt))
+        front_of s (gap_of s) rest ((cut s).split ∙ ap (λ u. gap_of s ++ u) same)
+        (λ n. let z : length s ≡ length (skip s) = ap length ((cut s).split ∙ ap (λ u. u ++ skip s) n) in omega (arith, z, lt))
 
 one_front : (s rest : Text) → past_one s ≡ Some rest → Front s rest
 one_front [] rest e = absurd (cc)
@@ -61,10 +63,12 @@ one_front (c ∷ s) rest e = (c, [], ap (λ u. c ∷ u) (let same : s ≡ rest =
 
 pub token_front : (s rest : Text) → token s ≡ Some rest → (c : ℕ) × (t : Text) × (s ≡ c ∷ (t ++ rest))
 unfolding token
-token_front s rest e = go (begins starts_gap s) (opens_string s) (opens_byte_string s) (is_at 39 s) (begins_with (codes "b'") s) (opens_raw_name s) (begins starts_run s) e
+token_front s rest e =
+    go (begins starts_gap s) (opens_string s) (opens_byte_string s) (is_at 39 s) (begins_with (codes "b'") s) (opens_raw_name s) (begins starts_run s) e
   where
     go : (a b c d f g h : Bool)
-        → cond a (past_gap s) (cond b (left_by (string s)) (cond c (left_by (byte_string s)) (cond d (left_by (char s)) (cond f (left_by (byte s)) (cond g (left_by (raw_name s)) (cond h (left_by (run starts_run continues_name s)) (past_one s))))))) ≡ Some rest
+        → cond a (past_gap s) (cond b (left_by (string s)) (cond c (left_by (byte_string s)) (cond d (left_by (char s))
+        (cond f (left_by (byte s)) (cond g (left_by (raw_name s)) (cond h (left_by (run starts_run continues_name s)) (past_one s))))))) ≡ Some rest
         → Front s rest
     go true b c d f g h k = gap_front s rest k
     go false true c d f g h k = word_front string String word_string string_some s rest k
@@ -72,5 +76,6 @@ token_front s rest e = go (begins starts_gap s) (opens_string s) (opens_byte_str
     go false false false true f g h k = word_front char Char word_char (λ t next a z. behind_some 39 _ t next a z) s rest k
     go false false false false true g h k = word_front byte Byte word_byte (λ t next a z. behind_some 98 _ t next a z) s rest k
     go false false false false false true h k = word_front raw_name RawName word_raw_name (λ t next a z. behind_some 114 _ t next a z) s rest k
-    go false false false false false false true k = word_front (run starts_run continues_name) (Run starts_run continues_name) (word_run starts_run continues_name) run_some s rest k
+    go false false false false false false true k =
+        word_front (run starts_run continues_name) (Run starts_run continues_name) (word_run starts_run continues_name) run_some s rest k
     go false false false false false false false k = one_front s rest k

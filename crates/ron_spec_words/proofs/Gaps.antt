@@ -1,8 +1,10 @@
 -- Laws of gaps: the longest one is one, nothing of a gap follows it, and a text behind it changes nothing. For every rule with gaps.
-use Rattle.std.proofs.Common.{◌≡◌, ℕ, zero, suc, Bool, true, false, cond, [], ◌∷◌, ◌++◌, ◌⊎◌, inl, inr, Option, Some, None, refl, sym, ap, ◌∙◌, ◌-◌, ◌≤◌, ◌==◌, length, drop, take, take_at, length-append, append_assoc, append-nil, subst, arith}
+use Rattle.std.proofs.Common.{◌≡◌, ℕ, zero, suc, Bool, true, false, cond, [], ◌∷◌, ◌++◌, ◌⊎◌, inl, inr, Option, Some, None, refl, sym, ap, ◌∙◌, ◌-◌, ◌≤◌, ◌==◌}
+use Rattle.std.proofs.Common.{length, drop, take, take_at, length-append, append_assoc, append-nil, subst, arith}
 use Rattle.ron_spec_words.specs.Characters.{Text, is_blank}
 use Rattle.ron_spec_words.specs.Runs.{begins, Every}
-use Rattle.ron_spec_words.specs.Gap.{in_line, opens_line, opens_block, Piece, blank, line, block, Gap, none, piece, last_line, after_line, after_block, after_comment, skip_from, skip, LongGap, gap_of}
+use Rattle.ron_spec_words.specs.Gap.{in_line, opens_line, opens_block, Piece, blank, line, block, Gap, none, piece, last_line, after_line, after_block}
+use Rattle.ron_spec_words.specs.Gap.{after_comment, skip_from, skip, LongGap, gap_of}
 use Rattle.ron_spec_words.specs.Statement.{CutsAtGap}
 use Rattle.ron_spec_words.proofs.Comments.{line-end, line-last, Line, line_found, inside-end, Block, block_found}
 use Rattle.ron_spec_words.proofs.Direct.{begins-drop}
@@ -48,7 +50,8 @@ skip-piece : {p : Text} → Piece p → (s : Text) → skip (p ++ s) ≡ skip s
 unfolding after_comment
 skip-piece (blank c e) s = skip-blank c s e
 skip-piece (line t h) s = skip-comment 47 (47 ∷ (t ++ 10 ∷ [])) s refl (ap Some (ap after_line (append_assoc t (10 ∷ []) s) ∙ line-end t s h))
-skip-piece (block inner h) s = skip-comment 47 (42 ∷ (inner ++ 42 ∷ 47 ∷ [])) s refl (ap (after_block 0) (append_assoc inner (42 ∷ 47 ∷ []) s) ∙ inside-end h 0 s)
+skip-piece (block inner h) s =
+    skip-comment 47 (42 ∷ (inner ++ 42 ∷ 47 ∷ [])) s refl (ap (after_block 0) (append_assoc inner (42 ∷ 47 ∷ []) s) ∙ inside-end h 0 s)
 
 skip-last_line : (t : Text) → Every in_line t → skip (47 ∷ 47 ∷ t) ≡ []
 unfolding after_comment
@@ -106,8 +109,10 @@ comment_found c s rest e = go (opens_line (c ∷ s)) refl (opens_block (c ∷ s)
     put : (d : ℕ) → ◌≡◌ {A = Text} (c ∷ s) (47 ∷ d ∷ drop 2 (c ∷ s)) → Found 47 (d ∷ drop 2 (c ∷ s)) rest → Found c s rest
     put d k h = let a : c ≡ 47 = cc in let b : s ≡ d ∷ drop 2 (c ∷ s) = cc in subst (λ n. Found n s rest) (sym a) (subst (λ x. Found 47 x rest) (sym b) h)
 
-    go : (a : Bool) → opens_line (c ∷ s) ≡ a → (b : Bool) → opens_block (c ∷ s) ≡ b → cond a (Some (after_line (drop 2 (c ∷ s)))) (cond b (after_block 0 (drop 2 (c ∷ s))) None) ≡ Some rest → Found c s rest
-    go true k b l q = let z : after_line (drop 2 (c ∷ s)) ≡ rest = cc in put 47 (begins-drop (47 ∷ 47 ∷ []) (c ∷ s) k) (subst (λ r. Found 47 (47 ∷ drop 2 (c ∷ s)) r) z (found_line (drop 2 (c ∷ s))))
+    go : (a : Bool) → opens_line (c ∷ s) ≡ a → (b : Bool) → opens_block (c ∷ s) ≡ b
+        → cond a (Some (after_line (drop 2 (c ∷ s)))) (cond b (after_block 0 (drop 2 (c ∷ s))) None) ≡ Some rest → Found c s rest
+    go true k b l q = let z : after_line (drop 2 (c ∷ s)) ≡ rest = cc in
+        put 47 (begins-drop (47 ∷ 47 ∷ []) (c ∷ s) k) (subst (λ r. Found 47 (47 ∷ drop 2 (c ∷ s)) r) z (found_line (drop 2 (c ∷ s))))
     go false k true l q = put 42 (begins-drop (47 ∷ 42 ∷ []) (c ∷ s) l) (found_block (drop 2 (c ∷ s)) rest (block_found (drop 2 (c ∷ s)) rest q))
     go false k false l q = absurd (cc)
 
@@ -144,7 +149,12 @@ skipped_turn c s further = go (is_blank c) refl (after_comment (c ∷ s)) refl
         }
 
     go : (b : Bool) → is_blank c ≡ b → (o : Option Text) → after_comment (c ∷ s) ≡ o → Skipped (c ∷ s)
-    go true e o f = let h = further s (omega arith) in record { gap = c ∷ h.gap; split = rw (skip-blank c s e) (ap (λ x. c ∷ x) h.split); is_gap = rw (skip-blank c s e) (piece (c ∷ []) h.gap (skip s) (blank c e) h.is_gap) }
+    go true e o f = let h = further s (omega arith) in
+        record {
+          gap = c ∷ h.gap;
+          split = rw (skip-blank c s e) (ap (λ x. c ∷ x) h.split);
+          is_gap = rw (skip-blank c s e) (piece (c ∷ []) h.gap (skip s) (blank c e) h.is_gap);
+        }
     go false e None f = record { gap = []; split = sym (skip-stay c s e f); is_gap = none }
     go false e (Some rest) f = let k = comment_found c s rest f in past e rest f k (further rest (omega (arith, ap length k.split, length-append k.more rest)))
 

@@ -159,11 +159,13 @@ unfolding untyped_integer any_integer byte hex_byte number magnitude opt_suffix 
 untyped_byte = refl
 
 -- a number is read whatever its magnitude: which width holds it is asked behind it
-untyped_largest : untyped_integer (codes "340282366920938463463374607431768211455") ≡ got (record { minus = false; magnitude = 340282366920938463463374607431768211455; suffix = None }) []
+untyped_largest : untyped_integer (codes "340282366920938463463374607431768211455")
+    ≡ got (record { minus = false; magnitude = 340282366920938463463374607431768211455; suffix = None }) []
 unfolding untyped_integer any_integer byte hex_byte number magnitude opt_suffix unicode_ident
 untyped_largest = refl
 
-untyped_larger : untyped_integer (codes "340282366920938463463374607431768211456") ≡ got (record { minus = false; magnitude = 340282366920938463463374607431768211456; suffix = None }) []
+untyped_larger : untyped_integer (codes "340282366920938463463374607431768211456")
+    ≡ got (record { minus = false; magnitude = 340282366920938463463374607431768211456; suffix = None }) []
 unfolding untyped_integer any_integer byte hex_byte number magnitude opt_suffix unicode_ident
 untyped_larger = refl
 

@@ -14,7 +14,8 @@ use Rattle.ron_spec_words.specs.KindTable.{kinds_from, kinds, fill_from, kind_ta
 
 -- what kinds compute by
 unfoldable by_tokens : Unit {0}
-unfolding kind opens_field name seek token skip skip_from after_comment char byte string byte_string quoted_string quoted_bytes string_escape byte_string_escape raw hex_character hex_byte unicode_escape plain_escape continuation is_utf8 chars encode unicode_ident kinds_from fill_from
+unfolding kind opens_field name seek token skip skip_from after_comment char byte string byte_string quoted_string quoted_bytes string_escape byte_string_escape
+    raw hex_character hex_byte unicode_escape plain_escape continuation is_utf8 chars encode unicode_ident kinds_from fill_from
 by_tokens = tt
 
 -- ---- named fields

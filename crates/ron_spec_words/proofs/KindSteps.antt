@@ -1,5 +1,6 @@
 -- What one token tells of the kinds of the groups that are open.
-use Rattle.std.proofs.Common.{◌≡◌, ℕ, zero, suc, ◌-◌, ◌==◌, nat_lt, lt-ltb, Bool, true, false, cond, if◌then◌else◌, length, [], ◌∷◌, ◌++◌, Option, Some, None, refl, sym, ap, ap₂, ◌∙◌, length-append, arith, eqb-true}
+use Rattle.std.proofs.Common.{◌≡◌, ℕ, zero, suc, ◌-◌, ◌==◌, nat_lt, lt-ltb, Bool, true, false, cond, if◌then◌else◌, length, [], ◌∷◌, ◌++◌, Option, Some, None}
+use Rattle.std.proofs.Common.{refl, sym, ap, ap₂, ◌∙◌, length-append, arith, eqb-true}
 use Rattle.std.proofs.lemmas.Bool.{or_parts}
 use Rattle.ron_spec_words.specs.Characters.{Text, is_blank}
 use Rattle.ron_spec_words.specs.Runs.{begins, is_at}
@@ -163,17 +164,20 @@ name_passed c s next h = at (name (c ∷ s)) refl
     at (got m rest) k = ap (λ u. is_at 58 (skip u)) (name_is_token (c ∷ s) m rest next k h)
     at (failed x) k = refl
 
-past_other : (stage : Stage) (c : ℕ) (s next : Text) → token (c ∷ s) ≡ Some next → starts_gap c ≡ false → names_field stage (c ∷ s) ≡ false → named_at stage (c ∷ s) ≡ named_at (past_word stage (c ∷ s)) next
+past_other : (stage : Stage) (c : ℕ) (s next : Text) → token (c ∷ s) ≡ Some next → starts_gap c ≡ false → names_field stage (c ∷ s) ≡ false
+    → named_at stage (c ∷ s) ≡ named_at (past_word stage (c ∷ s)) next
 past_other behind_opening c s next h g n = ap opens_field (stays c s g) ∙ name_passed c s next h
 past_other behind_name c s next h g n = ap (is_at 58) (stays c s g) ∙ n
 past_other elsewhere c s next h g n = refl
 
 -- Behind a token that is neither an opening bracket nor a field's `:`, as much is named as before it.
-pub named_over : (stage : Stage) (c : ℕ) (s next : Text) → token (c ∷ s) ≡ Some next → is_opening c ≡ false → names_field stage (c ∷ s) ≡ false → named_at stage (c ∷ s) ≡ named_at (next_stage stage (c ∷ s)) next
+pub named_over : (stage : Stage) (c : ℕ) (s next : Text) → token (c ∷ s) ≡ Some next → is_opening c ≡ false → names_field stage (c ∷ s) ≡ false
+    → named_at stage (c ∷ s) ≡ named_at (next_stage stage (c ∷ s)) next
 named_over stage c s next h o n = go (starts_gap c) refl
   where
     go : (g : Bool) → starts_gap c ≡ g → named_at stage (c ∷ s) ≡ named_at (next_stage stage (c ∷ s)) next
-    go true g = past_gap_same stage (c ∷ s) next (past_gap_is (c ∷ s) next (sym (gap_is c s g) ∙ h)) ∙ ap (λ x. named_at x next) (let z : stage ≡ next_stage stage (c ∷ s) = rw (o, g) refl in z)
+    go true g = past_gap_same stage (c ∷ s) next (past_gap_is (c ∷ s) next (sym (gap_is c s g) ∙ h))
+        ∙ ap (λ x. named_at x next) (let z : stage ≡ next_stage stage (c ∷ s) = rw (o, g) refl in z)
     go false g = past_other stage c s next h g n ∙ ap (λ x. named_at x next) (let z : past_word stage (c ∷ s) ≡ next_stage stage (c ∷ s) = rw (o, g) refl in z)
 
 -- at a broken token nothing is named
@@ -232,7 +236,8 @@ closing_mark c e = not_other c (rw (closing_no_opening c e, e) refl)
 
 -- a comma or a closing bracket tells a kind, and that stays
 marked_stays : (k : Kind) (c : ℕ) (s : Text) → settle k (kind_at (c ∷ s)) ≡ kind_at (c ∷ s)
-marked_stays k c s = elim (separates (c ∷ s)) as (λ b. settle k (cond b many_items newtype_item) ≡ cond b many_items newtype_item) [ true ↦ refl | false ↦ refl ]
+marked_stays k c s =
+    elim (separates (c ∷ s)) as (λ b. settle k (cond b many_items newtype_item) ≡ cond b many_items newtype_item) [ true ↦ refl | false ↦ refl ]
 
 no_field_here : (stage : Stage) (c : ℕ) (s : Text) → (c == 58) ≡ false → names_field stage (c ∷ s) ≡ false
 no_field_here behind_opening c s e = refl
@@ -240,8 +245,10 @@ no_field_here behind_name c s e = e
 no_field_here elsewhere c s e = refl
 
 -- what such a mark tells, is the kind
-pub mark_told : (stage : Stage) (c : ℕ) (s : Text) → IsMark c → ends false zero c ≡ true → (told stage (c ∷ s) ≡ kind_at (c ∷ s)) × (kind_on stage (c ∷ s) zero ≡ kind_at (c ∷ s))
-mark_told stage c s m e = (rw (no_field_here stage c s m.no_colon, e) refl, unnamed_on stage (c ∷ s) zero (mark_unnamed stage c s m) ∙ ap kind_at (seek-end zero c s e))
+pub mark_told : (stage : Stage) (c : ℕ) (s : Text) → IsMark c → ends false zero c ≡ true
+    → (told stage (c ∷ s) ≡ kind_at (c ∷ s)) × (kind_on stage (c ∷ s) zero ≡ kind_at (c ∷ s))
+mark_told stage c s m e =
+    (rw (no_field_here stage c s m.no_colon, e) refl, unnamed_on stage (c ∷ s) zero (mark_unnamed stage c s m) ∙ ap kind_at (seek-end zero c s e))
 
 colon_told : (stage : Stage) (c : ℕ) (s : Text) → names_field stage (c ∷ s) ≡ true → kind_on stage (c ∷ s) zero ≡ named_fields
 colon_told behind_opening c s n = absurd (cc)
@@ -254,7 +261,8 @@ is_comma : (c : ℕ) → is_closing c ≡ false → ends false zero c ≡ true �
 is_comma c e h = rw e at h
 
 -- Behind a token that is no bracket, what it told of the innermost group and what is told from there on is what is told from here on.
-pub inner_on : (stage : Stage) (c : ℕ) (s rest : Text) → token (c ∷ s) ≡ Some rest → is_opening c ≡ false → is_closing c ≡ false → settle (kind_on (next_stage stage (c ∷ s)) rest zero) (told stage (c ∷ s)) ≡ kind_on stage (c ∷ s) zero
+pub inner_on : (stage : Stage) (c : ℕ) (s rest : Text) → token (c ∷ s) ≡ Some rest → is_opening c ≡ false → is_closing c ≡ false
+    → settle (kind_on (next_stage stage (c ∷ s)) rest zero) (told stage (c ∷ s)) ≡ kind_on stage (c ∷ s) zero
 inner_on stage c s rest h o e = field (names_field stage (c ∷ s)) refl
   where
     after : Kind
@@ -268,7 +276,8 @@ inner_on stage c s rest h o e = field (names_field stage (c ∷ s)) refl
         let nothing : told stage (c ∷ s) ≡ broken = rw (n, k) refl in
         let level_is : level zero c ≡ zero = rw (o, e) refl in
         ap (settle after) nothing
-        ∙ ap₂ (λ b u. cond b named_fields (kind_at u)) (sym (named_over stage c s rest h o n)) (sym (seek_over zero c s rest k h ∙ ap (λ d. seek zero d rest) level_is))
+        ∙ ap₂ (λ b u. cond b named_fields (kind_at u)) (sym (named_over stage c s rest h o n))
+        (sym (seek_over zero c s rest k h ∙ ap (λ d. seek zero d rest) level_is))
 
     field : (b : Bool) → names_field stage (c ∷ s) ≡ b → settle after (told stage (c ∷ s)) ≡ kind_on stage (c ∷ s) zero
     field true n = let told_is : told stage (c ∷ s) ≡ named_fields = rw n refl in ap (settle after) told_is ∙ sym (colon_told stage c s n)
@@ -280,7 +289,8 @@ seek-broken d c s e h = rw (e, h) refl
 
 -- at a broken token nothing is told of any group
 pub broken_on : (stage : Stage) (c : ℕ) (s : Text) (d : ℕ) → token (c ∷ s) ≡ None → kind_on stage (c ∷ s) d ≡ broken
-broken_on stage c s d h = unnamed_on stage (c ∷ s) d (broken_unnamed stage c s h) ∙ ap kind_at (seek-broken d c s (goes_on false d c (no_close (is_closing c) refl) (no_comma (c == 44) refl)) h)
+broken_on stage c s d h = unnamed_on stage (c ∷ s) d (broken_unnamed stage c s h)
+    ∙ ap kind_at (seek-broken d c s (goes_on false d c (no_close (is_closing c) refl) (no_comma (c == 44) refl)) h)
   where
     no_close : (b : Bool) → is_closing c ≡ b → b ≡ false
     no_close false k = refl

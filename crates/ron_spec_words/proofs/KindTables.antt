@@ -1,5 +1,6 @@
 -- The table that one pass fills holds the kinds, and the lookahead's tests are what these say.
-use Rattle.std.proofs.Common.{◌≡◌, ℕ, zero, suc, ◌-◌, ◌<◌, ◌≤◌, Bool, true, false, cond, if◌then◌else◌, length, List, [], ◌∷◌, ◌++◌, Option, Some, None, option_map, refl, sym, ap, ap₂, ◌∙◌, append_assoc, append-nil, length-append, arith}
+use Rattle.std.proofs.Common.{◌≡◌, ℕ, zero, suc, ◌-◌, ◌<◌, ◌≤◌, Bool, true, false, cond, if◌then◌else◌, length, List, [], ◌∷◌, ◌++◌, Option, Some, None}
+use Rattle.std.proofs.Common.{option_map, refl, sym, ap, ap₂, ◌∙◌, append_assoc, append-nil, length-append, arith}
 use Rattle.std.specs.Prelude.{slice_get}
 use Rattle.std.specs.Option.{unwrap_or}
 use Rattle.ron_spec_words.specs.Characters.{Text}
@@ -7,28 +8,34 @@ use Rattle.ron_spec_words.specs.Gap.{skip, gap_of}
 use Rattle.ron_spec_words.specs.Scan.{token, is_opening, is_closing, level, Walk, here, on}
 use Rattle.ron_spec_words.specs.Lookahead.{opens_field, seek, separates, holds_several}
 use Rattle.ron_spec_words.specs.Kind.{Kind, named_fields, many_items, newtype_item, broken, kind_at, kind, TellsKinds}
-use Rattle.ron_spec_words.specs.KindTable.{kinds_from, kinds, Stage, behind_opening, elsewhere, next_stage, settle, tell, tell_innermost, told, outer, next_groups, next_table, fill_from, IsTable, openings, IsTableAt}
+use Rattle.ron_spec_words.specs.KindTable.{kinds_from, kinds, Stage, behind_opening, elsewhere, next_stage, settle, tell, tell_innermost, told, outer}
+use Rattle.ron_spec_words.specs.KindTable.{next_groups, next_table, fill_from, IsTable, openings, IsTableAt}
 use Rattle.ron_spec_words.proofs.Gaps.{cut}
 use Rattle.ron_spec_words.proofs.Classes.{apart}
 use Rattle.ron_spec_words.proofs.Walks.{opening_alone, opening_no_closing, closing_no_opening, goes_on, walk_gap}
 use Rattle.ron_spec_words.proofs.Lookahead.{seek-walk}
-use Rattle.ron_spec_words.proofs.KindSteps.{taken, seek_over, IsMark, mark_unnamed, mark_ends_names, by_mark, kind_on, unnamed_on, opening_mark, closing_mark, mark_told, inner_on, broken_on, end_on}
+use Rattle.ron_spec_words.proofs.KindSteps.{taken, seek_over, IsMark, mark_unnamed, mark_ends_names, by_mark, kind_on, unnamed_on, opening_mark, closing_mark}
+use Rattle.ron_spec_words.proofs.KindSteps.{mark_told, inner_on, broken_on, end_on}
 
 -- ---- a turn of the pass
 
-fill-counted : (stage : Stage) (groups : List ℕ) (table : List Kind) (t s : Text) → fill_from (length t) stage groups table (t ++ s) ≡ fill_from zero stage groups table s
+fill-counted : (stage : Stage) (groups : List ℕ) (table : List Kind) (t s : Text)
+    → fill_from (length t) stage groups table (t ++ s) ≡ fill_from zero stage groups table s
 unfolding fill_from
 fill-counted stage groups table [] s = refl
 fill-counted stage groups table (c ∷ t) s = fill-counted stage groups table t s
 
 fill_at : (stage : Stage) (groups : List ℕ) (table : List Kind) (c : ℕ) (s rest : Text) → token (c ∷ s) ≡ Some rest
-    → fill_from zero stage groups table (c ∷ s) ≡ fill_from (length s - length rest) (next_stage stage (c ∷ s)) (next_groups (length table) (c ∷ s) groups) (next_table stage (c ∷ s) groups table) s
+    → fill_from zero stage groups table (c ∷ s)
+    ≡ fill_from (length s - length rest) (next_stage stage (c ∷ s)) (next_groups (length table) (c ∷ s) groups) (next_table stage (c ∷ s) groups table) s
 unfolding fill_from
-fill_at stage groups table c s rest h = ap (λ o. unwrap_or (option_map (λ rest. fill_from (length s - length rest) (next_stage stage (c ∷ s)) (next_groups (length table) (c ∷ s) groups) (next_table stage (c ∷ s) groups table) s) o) table) h
+fill_at stage groups table c s rest h = ap (λ o. unwrap_or (option_map (λ rest. fill_from (length s - length rest) (next_stage stage (c ∷ s))
+    (next_groups (length table) (c ∷ s) groups) (next_table stage (c ∷ s) groups table) s) o) table) h
 
 -- behind a token
 pub fill_over : (stage : Stage) (groups : List ℕ) (table : List Kind) (c : ℕ) (s rest : Text) → token (c ∷ s) ≡ Some rest
-    → fill_from zero stage groups table (c ∷ s) ≡ fill_from zero (next_stage stage (c ∷ s)) (next_groups (length table) (c ∷ s) groups) (next_table stage (c ∷ s) groups table) rest
+    → fill_from zero stage groups table (c ∷ s)
+    ≡ fill_from zero (next_stage stage (c ∷ s)) (next_groups (length table) (c ∷ s) groups) (next_table stage (c ∷ s) groups table) rest
 fill_over stage groups table c s rest h =
     let k = taken c s rest h in
     fill_at stage groups table c s rest h
@@ -36,9 +43,11 @@ fill_over stage groups table c s rest h =
     ∙ fill-counted (next_stage stage (c ∷ s)) (next_groups (length table) (c ∷ s) groups) (next_table stage (c ∷ s) groups table) k.more rest
 
 -- at a broken token, and where the text ends
-pub fill_broken : (stage : Stage) (groups : List ℕ) (table : List Kind) (c : ℕ) (s : Text) → token (c ∷ s) ≡ None → fill_from zero stage groups table (c ∷ s) ≡ table
+pub fill_broken : (stage : Stage) (groups : List ℕ) (table : List Kind) (c : ℕ) (s : Text) → token (c ∷ s) ≡ None
+    → fill_from zero stage groups table (c ∷ s) ≡ table
 unfolding fill_from
-fill_broken stage groups table c s h = ap (λ o. unwrap_or (option_map (λ rest. fill_from (length s - length rest) (next_stage stage (c ∷ s)) (next_groups (length table) (c ∷ s) groups) (next_table stage (c ∷ s) groups table) s) o) table) h
+fill_broken stage groups table c s h = ap (λ o. unwrap_or (option_map (λ rest. fill_from (length s - length rest) (next_stage stage (c ∷ s))
+    (next_groups (length table) (c ∷ s) groups) (next_table stage (c ∷ s) groups table) s) o) table) h
 
 pub fill_end : (stage : Stage) (groups : List ℕ) (table : List Kind) → fill_from zero stage groups table [] ≡ table
 unfolding fill_from
@@ -77,7 +86,8 @@ settled (i ∷ groups) f table = settled groups (λ d. f (suc d)) (tell i (f 0) 
 
 settled_same : (groups : List ℕ) (f g : ℕ → Kind) (table : List Kind) → ((d : ℕ) → f d ≡ g d) → settled groups f table ≡ settled groups g table
 settled_same [] f g table h = refl
-settled_same (i ∷ groups) f g table h = settled_same groups (λ d. f (suc d)) (λ d. g (suc d)) (tell i (f 0) table) (λ d. h (suc d)) ∙ ap (λ k. settled groups (λ d. g (suc d)) (tell i k table)) (h 0)
+settled_same (i ∷ groups) f g table h = settled_same groups (λ d. f (suc d)) (λ d. g (suc d)) (tell i (f 0) table) (λ d. h (suc d))
+    ∙ ap (λ k. settled groups (λ d. g (suc d)) (tell i k table)) (h 0)
 
 settle_nothing : (k : Kind) → settle broken k ≡ k
 settle_nothing named_fields = refl
@@ -92,7 +102,8 @@ tell_nothing (suc i) (x ∷ xs) = ap (λ ys. x ∷ ys) (tell_nothing i xs)
 
 settled_nothing : (groups : List ℕ) (f : ℕ → Kind) (table : List Kind) → ((d : ℕ) → f d ≡ broken) → settled groups f table ≡ table
 settled_nothing [] f table h = refl
-settled_nothing (i ∷ groups) f table h = settled_nothing groups (λ d. f (suc d)) (tell i (f 0) table) (λ d. h (suc d)) ∙ ap (λ k. tell i k table) (h 0) ∙ tell_nothing i table
+settled_nothing (i ∷ groups) f table h =
+    settled_nothing groups (λ d. f (suc d)) (tell i (f 0) table) (λ d. h (suc d)) ∙ ap (λ k. tell i k table) (h 0) ∙ tell_nothing i table
 
 settle_twice : (l k x : Kind) → settle l (settle k x) ≡ settle (settle l k) x
 settle_twice l k named_fields = refl
@@ -130,7 +141,8 @@ within_told [] k table h = tt
 within_told (i ∷ groups) k table h = within_more (i ∷ groups) (length table) (length (tell i k table)) (omega (arith, length_tell i k table)) h
 
 within_new : (groups : List ℕ) (k : Kind) (table : List Kind) → Within groups (length table) → Within (length table ∷ groups) (length (table ++ k ∷ []))
-within_new groups k table h = let n = length-append table (k ∷ []) in (omega (arith, n), within_more groups (length table) (length (table ++ k ∷ [])) (omega (arith, n)) h)
+within_new groups k table h = let n = length-append table (k ∷ []) in
+    (omega (arith, n), within_more groups (length table) (length (table ++ k ∷ [])) (omega (arith, n)) h)
 
 tell_front : (i : ℕ) (k x : Kind) (table : List Kind) → i < length table → tell i k (table ++ x ∷ []) ≡ tell i k table ++ x ∷ []
 tell_front i k x [] lt = absurd (omega (arith, lt))
@@ -141,11 +153,13 @@ tell_last : (k : Kind) (table : List Kind) → tell (length table) k (table ++ b
 tell_last k [] = refl
 tell_last k (x ∷ xs) = ap (λ ys. x ∷ ys) (tell_last k xs)
 
-settled_front : (groups : List ℕ) (f : ℕ → Kind) (x : Kind) (table : List Kind) → Within groups (length table) → settled groups f (table ++ x ∷ []) ≡ settled groups f table ++ x ∷ []
+settled_front : (groups : List ℕ) (f : ℕ → Kind) (x : Kind) (table : List Kind) → Within groups (length table)
+    → settled groups f (table ++ x ∷ []) ≡ settled groups f table ++ x ∷ []
 settled_front [] f x table h = refl
 settled_front (i ∷ groups) f x table h =
     ap (settled groups (λ d. f (suc d))) (tell_front i (f 0) x table h.0)
-    ∙ settled_front groups (λ d. f (suc d)) x (tell i (f 0) table) (within_more groups (length table) (length (tell i (f 0) table)) (omega (arith, length_tell i (f 0) table)) h.1)
+    ∙ settled_front groups (λ d. f (suc d)) x (tell i (f 0) table)
+    (within_more groups (length table) (length (tell i (f 0) table)) (omega (arith, length_tell i (f 0) table)) h.1)
 
 -- ---- behind each token
 
@@ -166,10 +180,12 @@ turn_open stage groups table c s o w found =
     let h = opening_alone c s o in
     let level_is : (d : ℕ) → level d c ≡ suc d = λ d. rw o refl in
     let up : (d : ℕ) → by_mark (suc d) s ≡ kind_on stage (c ∷ s) d = λ d.
-    sym (unnamed_on stage (c ∷ s) d (mark_unnamed stage c s (opening_mark c o)) ∙ ap kind_at (seek_over d c s s (goes_on false d c (opening_no_closing c o) (apart is_opening 44 c refl o)) h ∙ ap (λ e. seek zero e s) (level_is d))) in
+    sym (unnamed_on stage (c ∷ s) d (mark_unnamed stage c s (opening_mark c o))
+    ∙ ap kind_at (seek_over d c s s (goes_on false d c (opening_no_closing c o) (apart is_opening 44 c refl o)) h ∙ ap (λ e. seek zero e s) (level_is d))) in
     let kinds_is : kinds (c ∷ s) ≡ kind s ∷ kinds s = kinds_over c s s h ∙ ap (λ b. cond b (kind s ∷ []) [] ++ kinds s) o in
     fill_over stage groups table c s s h ∙ same_pass s (rw o refl) (rw o refl) (rw o refl) ∙ found
-    ∙ ap (λ u. u ++ kinds s) (ap (settled groups (λ d. by_mark (suc d) s)) (tell_last (kind_on behind_opening s zero) table ∙ ap (λ k. table ++ k ∷ []) (kind_behind s))
+    ∙ ap (λ u. u ++ kinds s) (ap (settled groups (λ d. by_mark (suc d) s))
+    (tell_last (kind_on behind_opening s zero) table ∙ ap (λ k. table ++ k ∷ []) (kind_behind s))
     ∙ settled_front groups (λ d. by_mark (suc d) s) (kind s) table w ∙ ap (λ u. u ++ kind s ∷ []) (settled_same groups _ _ table up))
     ∙ append_assoc (settled groups (kind_on stage (c ∷ s)) table) (kind s ∷ []) (kinds s)
     ∙ ap (λ u. settled groups (kind_on stage (c ∷ s)) table ++ u) (sym kinds_is)
@@ -183,26 +199,33 @@ turn_close : (stage : Stage) (groups : List ℕ) (table : List Kind) (c : ℕ) (
 turn_close stage groups table c s rest h e found =
     let o = closing_no_opening c e in
     let m = closing_mark c e in
-    fill_over stage groups table c s rest h ∙ same_pass rest (mark_ends_names stage c s m o) (rw (o, e) refl) (rw o refl) ∙ found ∙ ap₂ (λ x y. x ++ y) (closed groups m) (sym (no_kind c s rest h o))
+    fill_over stage groups table c s rest h ∙ same_pass rest (mark_ends_names stage c s m o) (rw (o, e) refl) (rw o refl) ∙ found
+    ∙ ap₂ (λ x y. x ++ y) (closed groups m) (sym (no_kind c s rest h o))
   where
     down : (d : ℕ) → kind_on elsewhere rest d ≡ by_mark (suc d) (c ∷ s)
-    down d = let level_is : level (suc d) c ≡ d = rw (closing_no_opening c e, e) refl in unnamed_on elsewhere rest d refl ∙ ap kind_at (sym (seek_over (suc d) c s rest refl h ∙ ap (λ l. seek zero l rest) level_is))
+    down d = let level_is : level (suc d) c ≡ d = rw (closing_no_opening c e, e) refl in
+        unnamed_on elsewhere rest d refl ∙ ap kind_at (sym (seek_over (suc d) c s rest refl h ∙ ap (λ l. seek zero l rest) level_is))
 
-    closed : (gs : List ℕ) → IsMark c → settled (outer gs) (kind_on elsewhere rest) (tell_innermost gs (told stage (c ∷ s)) table) ≡ settled gs (kind_on stage (c ∷ s)) table
+    closed : (gs : List ℕ) → IsMark c
+        → settled (outer gs) (kind_on elsewhere rest) (tell_innermost gs (told stage (c ∷ s)) table) ≡ settled gs (kind_on stage (c ∷ s)) table
     closed [] m = refl
     closed (i ∷ gs) m =
         let k = mark_told stage c s m (rw e refl) in
         settled_same gs _ _ (tell i (told stage (c ∷ s)) table) down ∙ ap (λ x. settled gs (λ d. by_mark (suc d) (c ∷ s)) (tell i x table)) (k.0 ∙ sym k.1)
 
-turn_within : (stage : Stage) (groups : List ℕ) (table : List Kind) (c : ℕ) (s rest : Text) → token (c ∷ s) ≡ Some rest → is_opening c ≡ false → is_closing c ≡ false
+turn_within : (stage : Stage) (groups : List ℕ) (table : List Kind) (c : ℕ) (s rest : Text) → token (c ∷ s) ≡ Some rest → is_opening c ≡ false
+    → is_closing c ≡ false
     → Finds (next_stage stage (c ∷ s)) groups (tell_innermost groups (told stage (c ∷ s)) table) rest → Finds stage groups table (c ∷ s)
 turn_within stage groups table c s rest h o e found =
-    fill_over stage groups table c s rest h ∙ same_pass rest refl (rw (o, e) refl) (rw o refl) ∙ found ∙ ap₂ (λ x y. x ++ y) (here groups) (sym (no_kind c s rest h o))
+    fill_over stage groups table c s rest h ∙ same_pass rest refl (rw (o, e) refl) (rw o refl) ∙ found
+    ∙ ap₂ (λ x y. x ++ y) (here groups) (sym (no_kind c s rest h o))
   where
     around : (d : ℕ) → by_mark (suc d) rest ≡ by_mark (suc d) (c ∷ s)
-    around d = let level_is : level (suc d) c ≡ suc d = rw (o, e) refl in ap kind_at (sym (seek_over (suc d) c s rest refl h ∙ ap (λ l. seek zero l rest) level_is))
+    around d = let level_is : level (suc d) c ≡ suc d = rw (o, e) refl in
+        ap kind_at (sym (seek_over (suc d) c s rest refl h ∙ ap (λ l. seek zero l rest) level_is))
 
-    here : (gs : List ℕ) → settled gs (kind_on (next_stage stage (c ∷ s)) rest) (tell_innermost gs (told stage (c ∷ s)) table) ≡ settled gs (kind_on stage (c ∷ s)) table
+    here : (gs : List ℕ)
+        → settled gs (kind_on (next_stage stage (c ∷ s)) rest) (tell_innermost gs (told stage (c ∷ s)) table) ≡ settled gs (kind_on stage (c ∷ s)) table
     here [] = refl
     here (i ∷ gs) =
         ap (settled gs (λ d. by_mark (suc d) rest)) (tell_twice i (kind_on (next_stage stage (c ∷ s)) rest zero) (told stage (c ∷ s)) table)
@@ -211,10 +234,12 @@ turn_within stage groups table c s rest h o e found =
 
 turn_broken : (stage : Stage) (groups : List ℕ) (table : List Kind) (c : ℕ) (s : Text) → token (c ∷ s) ≡ None → Finds stage groups table (c ∷ s)
 turn_broken stage groups table c s h =
-    fill_broken stage groups table c s h ∙ sym (append-nil table) ∙ ap₂ (λ x y. x ++ y) (sym (settled_nothing groups (kind_on stage (c ∷ s)) table (λ d. broken_on stage c s d h))) (sym (kinds_broken c s h))
+    fill_broken stage groups table c s h ∙ sym (append-nil table)
+    ∙ ap₂ (λ x y. x ++ y) (sym (settled_nothing groups (kind_on stage (c ∷ s)) table (λ d. broken_on stage c s d h))) (sym (kinds_broken c s h))
 
 turn_end : (stage : Stage) (groups : List ℕ) (table : List Kind) → Finds stage groups table []
-turn_end stage groups table = fill_end stage groups table ∙ sym (append-nil table) ∙ ap₂ (λ x y. x ++ y) (sym (settled_nothing groups (kind_on stage []) table (end_on stage))) (sym kinds_end)
+turn_end stage groups table = fill_end stage groups table ∙ sym (append-nil table)
+    ∙ ap₂ (λ x y. x ++ y) (sym (settled_nothing groups (kind_on stage []) table (end_on stage))) (sym kinds_end)
 
 -- ---- the whole pass
 
@@ -222,17 +247,23 @@ turn_end stage groups table = fill_end stage groups table ∙ sym (append-nil ta
 abbrev FindsBelow : ℕ → Type 0
 FindsBelow n = (s : Text) → length s < n → (stage : Stage) (groups : List ℕ) (table : List Kind) → Within groups (length table) → Finds stage groups table s
 
-turn : (c : ℕ) (s : Text) → FindsBelow (length (c ∷ s)) → (stage : Stage) (groups : List ℕ) (table : List Kind) → Within groups (length table) → Finds stage groups table (c ∷ s)
+turn : (c : ℕ) (s : Text) → FindsBelow (length (c ∷ s)) → (stage : Stage) (groups : List ℕ) (table : List Kind) → Within groups (length table)
+    → Finds stage groups table (c ∷ s)
 turn c s below stage groups table w = go (token (c ∷ s)) refl
   where
-    on_token : (rest : Text) → token (c ∷ s) ≡ Some rest → length rest < length (c ∷ s) → (o : Bool) → is_opening c ≡ o → (e : Bool) → is_closing c ≡ e → Finds stage groups table (c ∷ s)
-    on_token rest h lt true o e f = turn_open stage groups table c s o w (below s (omega arith) behind_opening (length table ∷ groups) (table ++ broken ∷ []) (within_new groups broken table w))
-    on_token rest h lt false o true e = turn_close stage groups table c s rest h e (below rest lt elsewhere (outer groups) (tell_innermost groups (told stage (c ∷ s)) table) (within_outer groups _ (within_told groups (told stage (c ∷ s)) table w)))
-    on_token rest h lt false o false e = turn_within stage groups table c s rest h o e (below rest lt (next_stage stage (c ∷ s)) groups (tell_innermost groups (told stage (c ∷ s)) table) (within_told groups (told stage (c ∷ s)) table w))
+    on_token : (rest : Text) → token (c ∷ s) ≡ Some rest → length rest < length (c ∷ s) → (o : Bool) → is_opening c ≡ o → (e : Bool) → is_closing c ≡ e
+        → Finds stage groups table (c ∷ s)
+    on_token rest h lt true o e f = turn_open stage groups table c s o w
+        (below s (omega arith) behind_opening (length table ∷ groups) (table ++ broken ∷ []) (within_new groups broken table w))
+    on_token rest h lt false o true e = turn_close stage groups table c s rest h e (below rest lt elsewhere (outer groups)
+        (tell_innermost groups (told stage (c ∷ s)) table) (within_outer groups _ (within_told groups (told stage (c ∷ s)) table w)))
+    on_token rest h lt false o false e = turn_within stage groups table c s rest h o e
+        (below rest lt (next_stage stage (c ∷ s)) groups (tell_innermost groups (told stage (c ∷ s)) table) (within_told groups (told stage (c ∷ s)) table w))
 
     go : (a : Option Text) → token (c ∷ s) ≡ a → Finds stage groups table (c ∷ s)
     go None h = turn_broken stage groups table c s h
-    go (Some rest) h = let k = taken c s rest h in on_token rest h (omega (arith, ap length k.split, length-append k.more rest)) (is_opening c) refl (is_closing c) refl
+    go (Some rest) h = let k = taken c s rest h in
+        on_token rest h (omega (arith, ap length k.split, length-append k.more rest)) (is_opening c) refl (is_closing c) refl
 
 finds_below : (n : ℕ) → FindsBelow n
 finds_below n [] lt stage groups table w = turn_end stage groups table
@@ -246,10 +277,13 @@ is_table s = finds_below (suc (length s)) s (omega arith) elsewhere [] [] tt
 
 module _ (c : ℕ) (u : Text) (is_open : is_opening c ≡ true) where
   kinds-walk : {commas : Bool} {d e : ℕ} {s v : Text} (w : Walk commas d s e v) → v ≡ c ∷ u → slice_get (kinds s) (openings w) ≡ Some (kind u)
-  kinds-walk (here d s) q = ap (λ x. slice_get (kinds x) zero) q ∙ ap (λ x. slice_get x zero) (kinds_over c u u (opening_alone c u is_open) ∙ ap (λ b. cond b (kind u ∷ []) [] ++ kinds u) is_open)
-  kinds-walk (on d b t next e v h k w) q = ap (λ x. slice_get x (openings (on d b t next e v h k w))) (kinds_over b (t ++ next) next k) ∙ by (is_opening b) (kinds-walk w q)
+  kinds-walk (here d s) q = ap (λ x. slice_get (kinds x) zero) q
+      ∙ ap (λ x. slice_get x zero) (kinds_over c u u (opening_alone c u is_open) ∙ ap (λ b. cond b (kind u ∷ []) [] ++ kinds u) is_open)
+  kinds-walk (on d b t next e v h k w) q =
+      ap (λ x. slice_get x (openings (on d b t next e v h k w))) (kinds_over b (t ++ next) next k) ∙ by (is_opening b) (kinds-walk w q)
     where
-      by : (o : Bool) → slice_get (kinds next) (openings w) ≡ Some (kind u) → slice_get (cond o (kind (t ++ next) ∷ []) [] ++ kinds next) (cond o (suc (openings w)) (openings w)) ≡ Some (kind u)
+      by : (o : Bool) → slice_get (kinds next) (openings w) ≡ Some (kind u)
+          → slice_get (cond o (kind (t ++ next) ∷ []) [] ++ kinds next) (cond o (suc (openings w)) (openings w)) ≡ Some (kind u)
       by true z = z
       by false z = z
 
@@ -264,7 +298,8 @@ marked_unnamed (c ∷ u) e = (elim (separates (c ∷ u)) as (λ b. cond b many_i
 
 marked_several : (u : Text) → (separates u ≡ true → kind_at u ≡ many_items) × (kind_at u ≡ many_items → separates u ≡ true)
 marked_several [] = (λ e. absurd (cc), λ e. absurd (cc))
-marked_several (c ∷ u) = elim (separates (c ∷ u)) as (λ b. (b ≡ true → cond b many_items newtype_item ≡ many_items) × (cond b many_items newtype_item ≡ many_items → b ≡ true)) [ true ↦ (λ e. refl, λ e. refl) | false ↦ (λ e. absurd (cc), λ e. absurd (cc)) ]
+marked_several (c ∷ u) = elim (separates (c ∷ u)) as (λ b. (b ≡ true → cond b many_items newtype_item ≡ many_items)
+    × (cond b many_items newtype_item ≡ many_items → b ≡ true)) [ true ↦ (λ e. refl, λ e. refl) | false ↦ (λ e. absurd (cc), λ e. absurd (cc)) ]
 
 -- the lookahead goes over the gap
 seek_gap : (s : Text) → seek zero zero (skip s) ≡ seek zero zero s
@@ -272,7 +307,10 @@ seek_gap s = let k = cut s in sym (ap (seek zero zero) k.split ∙ seek-walk (wa
 
 pub tells_kinds : TellsKinds
 unfolding kind holds_several
-tells_kinds s = record { fields = (λ e. rw e refl, λ e. named (opens_field (skip s)) refl e); several = λ f. (λ e. rw f (to (rw (seek_gap s) at e)), λ e. rw (seek_gap s) (from (rw f at e))) }
+tells_kinds s = record {
+  fields = (λ e. rw e refl, λ e. named (opens_field (skip s)) refl e);
+  several = λ f. (λ e. rw f (to (rw (seek_gap s) at e)), λ e. rw (seek_gap s) (from (rw f at e)));
+}
   where
     named : (b : Bool) → opens_field (skip s) ≡ b → cond b named_fields (kind_at (seek zero zero s)) ≡ named_fields → b ≡ true
     named true h e = refl

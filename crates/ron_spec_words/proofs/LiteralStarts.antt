@@ -10,7 +10,8 @@ use Rattle.ron_spec_words.proofs.Direct.{first_directly}
 use Rattle.ron_spec_words.proofs.Numbers.{first_magnitude}
 
 -- an integer: a sign or a hexadecimal digit
-pub first_number : (P : Text → Type 0) → ((s : Text) → P (43 ∷ s)) → ((s : Text) → P (45 ∷ s)) → ((c : ℕ) (s : Text) → is_ascii_hexdigit c ≡ true → P (c ∷ s)) → First P Number
+pub first_number : (P : Text → Type 0) → ((s : Text) → P (43 ∷ s)) → ((s : Text) → P (45 ∷ s)) → ((c : ℕ) (s : Text) → is_ascii_hexdigit c ≡ true → P (c ∷ s))
+    → First P Number
 first_number P plus minus digit = first_or (first_behind P 43 _ plus) (first_or (first_behind P 45 _ minus) (first_directly (first_magnitude P digit)))
 
 -- a char literal: `'`

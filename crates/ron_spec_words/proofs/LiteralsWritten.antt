@@ -1,5 +1,6 @@
 -- What is written between quotes is spelled, pieces in a row, escapes by number and by byte: for layouts of texts.
-use Rattle.std.proofs.Common.{◌≡◌, ℕ, zero, suc, ◌+◌, ◌*◌, ◌/◌, ◌%◌, ◌^◌, ◌<◌, ◌≤◌, ◌==◌, Bool, true, false, cond, length, [], ◌∷◌, ◌++◌, codes, flat_map, Some, inl, inr, refl, sym, ap, ◌∙◌, arith, append_assoc, add_assoc, mul_assoc, mul_comm, eqb-true, le-leb, ◌⊎◌, ◌&&◌, encode_utf8}
+use Rattle.std.proofs.Common.{◌≡◌, ℕ, zero, suc, ◌+◌, ◌*◌, ◌/◌, ◌%◌, ◌^◌, ◌<◌, ◌≤◌, ◌==◌, Bool, true, false, cond, length, [], ◌∷◌, ◌++◌, codes, flat_map, Some}
+use Rattle.std.proofs.Common.{inl, inr, refl, sym, ap, ◌∙◌, arith, append_assoc, add_assoc, mul_assoc, mul_comm, eqb-true, le-leb, ◌⊎◌, ◌&&◌, encode_utf8}
 use Rattle.std.proofs.Math.Nat.{add-mul, pow-suc}
 use Rattle.std.proofs.Math.Bool.{and-false}
 use Rattle.std.specs.Char.{is_ascii_hexdigit, digit_value}
@@ -16,10 +17,12 @@ use Rattle.ron_spec_words.proofs.Classes.{AllFrom, among}
 -- ---- pieces in a row
 
 -- what each character is spelled as, in a row and before the closing quote, spells what the characters give
-pub pieces_in_row : (P : Lang Text) (give spell : ℕ → Text) (p : ℕ → Bool) → ((c : ℕ) (next : Text) → p c ≡ true → P (spell c) next (give c)) → (cs next : Text) → Every p cs → Pieces P (flat_map spell cs ++ 34 ∷ []) next (flat_map give cs)
+pub pieces_in_row : (P : Lang Text) (give spell : ℕ → Text) (p : ℕ → Bool) → ((c : ℕ) (next : Text) → p c ≡ true → P (spell c) next (give c)) → (cs next : Text)
+    → Every p cs → Pieces P (flat_map spell cs ++ 34 ∷ []) next (flat_map give cs)
 pieces_in_row P give spell p k [] next h = close
 pieces_in_row P give spell p k (c ∷ cs) next h =
-    rw (append_assoc (spell c) (flat_map spell cs) (34 ∷ [])) (piece (spell c) (flat_map spell cs ++ 34 ∷ []) next (give c) (flat_map give cs) (k c ((flat_map spell cs ++ 34 ∷ []) ++ next) h.0) (pieces_in_row P give spell p k cs next h.1))
+    rw (append_assoc (spell c) (flat_map spell cs) (34 ∷ [])) (piece (spell c) (flat_map spell cs ++ 34 ∷ []) next (give c) (flat_map give cs)
+    (k c ((flat_map spell cs ++ 34 ∷ []) ++ next) h.0) (pieces_in_row P give spell p k cs next h.1))
 
 -- a character as it is
 pub piece_plain : (give : ℕ → Text) (E : Lang Text) (c : ℕ) (next : Text) → (c == 34) ≡ false → (c == 92) ≡ false → StringPiece give E (c ∷ []) next (give c)
@@ -44,7 +47,31 @@ glyphs d h = among IsGlyph 16 0 d (omega arith) (omega (arith, h)) all
     one = tt
 
     all : AllFrom IsGlyph 16 0
-    all = ((refl, refl), ((refl, refl), ((refl, refl), ((refl, refl), ((refl, refl), ((refl, refl), ((refl, refl), ((refl, refl), ((refl, refl), ((refl, refl), ((refl, refl), ((refl, refl), ((refl, refl), ((refl, refl), ((refl, refl), ((refl, refl), tt))))))))))))))))
+    all = (
+      (refl, refl),
+      (
+        (refl, refl),
+        (
+          (refl, refl),
+          (
+            (refl, refl),
+            (
+              (refl, refl),
+              (
+                (refl, refl),
+                (
+                  (refl, refl),
+                  (
+                    (refl, refl),
+                    ((refl, refl), ((refl, refl), ((refl, refl), ((refl, refl), ((refl, refl), ((refl, refl), ((refl, refl), ((refl, refl), tt)))))))),
+                  ),
+                ),
+              ),
+            ),
+          ),
+        ),
+      ),
+    )
 
 -- hexadecimal digits of this value and before these others
 record AreHex (n most : ℕ) (others t : Text) : Type 0 where
@@ -60,7 +87,12 @@ last_digit : (n : ℕ) (others : Text) → n / 16 ≡ 0 → Every is_ascii_hexdi
 last_digit n others h e = let same : n % 16 ≡ n = omega (arith, h) in rw same (one_digit n others (omega (arith, h)) e)
 
 digit_before : (n j : ℕ) (others t : Text) → AreHex (n / 16) j (glyph (n % 16) ∷ others) t → AreHex n (suc j) others t
-digit_before n j others t y = record { every = y.every; value = y.value ∙ ap (λ x. x + place_value 16 (glyph (n % 16) ∷ others)) shifted ∙ joined; some = y.some; few = let m = y.few in omega (arith, m) }
+digit_before n j others t y = record {
+  every = y.every;
+  value = y.value ∙ ap (λ x. x + place_value 16 (glyph (n % 16) ∷ others)) shifted ∙ joined;
+  some = y.some;
+  few = let m = y.few in omega (arith, m);
+}
   where
     power : ℕ
     power = 16 ^ length others
@@ -72,12 +104,14 @@ digit_before n j others t y = record { every = y.every; value = y.value ∙ ap (
     whole = omega arith
 
     joined : ((n / 16) * 16) * power + place_value 16 (glyph (n % 16) ∷ others) ≡ n * power + place_value 16 others
-    joined = rw ((glyphs (n % 16) (omega arith)).1) (sym (add_assoc (((n / 16) * 16) * power) ((n % 16) * power) (place_value 16 others)) ∙ ap (λ x. x + place_value 16 others) (sym (add-mul ((n / 16) * 16) (n % 16) power) ∙ ap (λ x. x * power) whole))
+    joined = rw ((glyphs (n % 16) (omega arith)).1) (sym (add_assoc (((n / 16) * 16) * power) ((n % 16) * power) (place_value 16 others))
+        ∙ ap (λ x. x + place_value 16 others) (sym (add-mul ((n / 16) * 16) (n % 16) power) ∙ ap (λ x. x * power) whole))
 
 digits_are : (k j n : ℕ) (others : Text) → n < 16 ^ suc j → j < k → Every is_ascii_hexdigit others → AreHex n (suc j) others (digits_onto k 16 false n others)
 digits_are zero j n others h m e = absurd (omega (arith, m))
 digits_are (suc k) zero n others h m e = let z : n / 16 ≡ 0 = omega (arith, h) in rw z (last_digit n others z e)
-digits_are (suc k) (suc j) n others h m e = go (n / 16 == 0) refl (digits_are k j (n / 16) (glyph (n % 16) ∷ others) small (omega (arith, m)) ((glyphs (n % 16) (omega arith)).0, e))
+digits_are (suc k) (suc j) n others h m e =
+    go (n / 16 == 0) refl (digits_are k j (n / 16) (glyph (n % 16) ∷ others) small (omega (arith, m)) ((glyphs (n % 16) (omega arith)).0, e))
   where
     small : n / 16 < 16 ^ suc j
     small = let p : 16 ^ suc (suc j) ≡ 16 ^ suc j * 16 = pow-suc 16 (suc j) in omega (arith, h, p)
@@ -85,12 +119,14 @@ digits_are (suc k) (suc j) n others h m e = go (n / 16 == 0) refl (digits_are k 
     wider : (t : Text) → AreHex n 1 others t → AreHex n (suc (suc j)) others t
     wider t y = record { every = y.every; value = y.value; some = y.some; few = let m = y.few in omega (arith, m) }
 
-    go : (b : Bool) → (n / 16 == 0) ≡ b → AreHex (n / 16) (suc j) (glyph (n % 16) ∷ others) (digits_onto k 16 false (n / 16) (glyph (n % 16) ∷ others)) → AreHex n (suc (suc j)) others (cond b (glyph (n % 16) ∷ others) (digits_onto k 16 false (n / 16) (glyph (n % 16) ∷ others)))
+    go : (b : Bool) → (n / 16 == 0) ≡ b → AreHex (n / 16) (suc j) (glyph (n % 16) ∷ others) (digits_onto k 16 false (n / 16) (glyph (n % 16) ∷ others))
+        → AreHex n (suc (suc j)) others (cond b (glyph (n % 16) ∷ others) (digits_onto k 16 false (n / 16) (glyph (n % 16) ∷ others)))
     go true f y = wider _ (last_digit n others (eqb-true (n / 16) 0 f) e)
     go false f y = digit_before n (suc j) others _ y
 
 -- one to six hexadecimal digits, in braces
-pub unicode_written : (h : Text) (c : ℕ) (next : Text) → Every is_ascii_hexdigit h → 1 ≤ length h → length h ≤ 6 → place_value 16 h ≡ c → scalar c ≡ true → UnicodeEscape (codes "\\u{" ++ (h ++ codes "}")) next c
+pub unicode_written : (h : Text) (c : ℕ) (next : Text) → Every is_ascii_hexdigit h → 1 ≤ length h → length h ≤ 6 → place_value 16 h ≡ c → scalar c ≡ true
+    → UnicodeEscape (codes "\\u{" ++ (h ++ codes "}")) next c
 unicode_written [] c next e some few v s = absurd (omega (arith, some))
 unicode_written (d ∷ h) c next e some few v s = record {
   rest = 117 ∷ 123 ∷ ((d ∷ h) ++ codes "}");
@@ -143,7 +179,11 @@ byte_written b next h =
           right = glyph (b % 16) ∷ [];
           split = refl;
           first = record { value = glyph (b / 16); spelled = refl; meant = rw (high.0, high.1) refl };
-          second = record { value = b % 16; spelled = record { value = glyph (b % 16); spelled = refl; meant = rw (low.0, low.1) refl }; meant = ap (λ x. Some x) whole };
+          second = record {
+            value = b % 16;
+            spelled = record { value = glyph (b % 16); spelled = refl; meant = rw (low.0, low.1) refl };
+            meant = ap (λ x. Some x) whole;
+          };
         };
       };
     }
@@ -152,24 +192,41 @@ byte_written b next h =
 
 -- a character that is no backslash, as it is
 pub char_as_it_is : (c : ℕ) (next : Text) → (c == 92) ≡ false → Char (39 ∷ c ∷ 39 ∷ []) next c
-char_as_it_is c next e = record { rest = c ∷ 39 ∷ []; split = refl; spelled = record { value = c; left = c ∷ []; right = 39 ∷ []; split = refl; first = inr (record { value = c; spelled = refl; meant = rw e refl }); second = (refl, refl) } }
+char_as_it_is c next e = record {
+  rest = c ∷ 39 ∷ [];
+  split = refl;
+  spelled = record {
+    value = c;
+    left = c ∷ [];
+    right = 39 ∷ [];
+    split = refl;
+    first = inr (record { value = c; spelled = refl; meant = rw e refl });
+    second = (refl, refl);
+  };
+}
 
 -- a character by its escape
 pub char_escaped : (w : Text) (c : ℕ) (next : Text) → Escape HexAscii UnicodeEscape w (39 ∷ next) c → Char (39 ∷ (w ++ 39 ∷ [])) next c
-char_escaped w c next l = record { rest = w ++ 39 ∷ []; split = refl; spelled = record { value = c; left = w; right = 39 ∷ []; split = refl; first = inl l; second = (refl, refl) } }
+char_escaped w c next l = record {
+  rest = w ++ 39 ∷ [];
+  split = refl;
+  spelled = record { value = c; left = w; right = 39 ∷ []; split = refl; first = inl l; second = (refl, refl) };
+}
 
 -- ---- pieces by an escape
 
 pub string_by_letter : (letter c : ℕ) (next : Text) → escape_meaning letter ≡ Some c → StringPiece itself StringEscape (92 ∷ letter ∷ []) next (c ∷ [])
 string_by_letter letter c next e = inr (inl (record { value = c; spelled = inr (inr (plain_written letter c next e)); meant = refl }))
 
-pub string_by_number : (c : ℕ) (next : Text) → scalar c ≡ true → StringPiece itself StringEscape (codes "\\u{" ++ (digits 16 false c ++ codes "}")) next (c ∷ [])
+pub string_by_number : (c : ℕ) (next : Text) → scalar c ≡ true
+    → StringPiece itself StringEscape (codes "\\u{" ++ (digits 16 false c ++ codes "}")) next (c ∷ [])
 string_by_number c next e = inr (inl (record { value = c; spelled = inr (inl (character_written c next e)); meant = refl }))
 
 pub bytes_by_letter : (letter c : ℕ) (next : Text) → escape_meaning letter ≡ Some c → StringPiece encode_utf8 ByteStringEscape (92 ∷ letter ∷ []) next (c ∷ [])
 bytes_by_letter letter c next e = inr (inl (inr (record { value = c; spelled = inr (inr (plain_written letter c next e)); meant = refl })))
 
-pub bytes_by_digits : (b : ℕ) (next : Text) → b < 256 → StringPiece encode_utf8 ByteStringEscape (codes "\\x" ++ (digit_glyph false (b / 16) ∷ digit_glyph false (b % 16) ∷ [])) next (b ∷ [])
+pub bytes_by_digits : (b : ℕ) (next : Text) → b < 256
+    → StringPiece encode_utf8 ByteStringEscape (codes "\\x" ++ (digit_glyph false (b / 16) ∷ digit_glyph false (b % 16) ∷ [])) next (b ∷ [])
 bytes_by_digits b next h = inr (inl (inr (record { value = b; spelled = inl (byte_written b next h); meant = refl })))
 
 -- ---- raw strings
@@ -187,7 +244,8 @@ too_few zero t u h = absurd (omega (arith, h))
 too_few (suc n) [] u h = refl
 too_few (suc n) (c ∷ t) u h = go (c == 35) refl (too_few n t u)
   where
-    go : (b : Bool) → (c == 35) ≡ b → (length (run_of is_hash t) < n → begins_with (hashes n) (t ++ 34 ∷ u) ≡ false) → ((c == 35) && begins_with (hashes n) (t ++ 34 ∷ u)) ≡ false
+    go : (b : Bool) → (c == 35) ≡ b → (length (run_of is_hash t) < n → begins_with (hashes n) (t ++ 34 ∷ u) ≡ false)
+        → ((c == 35) && begins_with (hashes n) (t ++ 34 ∷ u)) ≡ false
     go true k f = let m : length (run_of is_hash (c ∷ t)) ≡ suc (length (run_of is_hash t)) = rw k refl in rw (k, f (omega (arith, h, m))) refl
     go false k f = rw k refl
 

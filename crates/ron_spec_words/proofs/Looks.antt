@@ -20,21 +20,28 @@ hash_in_look : (c : ℕ) → is_hash c ≡ true → in_look c ≡ true
 hash_in_look c e = rw e (or-true (starts_name c || continues_name c))
 
 -- a plain name
-pub word_look : (s name rest : Text) → opens_raw_name s ≡ false → run starts_name continues_name s ≡ got name rest → bytes_in (beyond s) ≤ bytes_in (past_words rest)
+pub word_look : (s name rest : Text) → opens_raw_name s ≡ false → run starts_name continues_name s ≡ got name rest
+    → bytes_in (beyond s) ≤ bytes_in (past_words rest)
 word_look [] name rest plain e = cc
 word_look (c ∷ s) name rest plain e = go (starts_name c) refl e
   where
-    go : (b : Bool) → starts_name c ≡ b → cond b (got (c ∷ run_of continues_name s) (after_run continues_name s)) (failed bad) ≡ got name rest → bytes_in (beyond (c ∷ s)) ≤ bytes_in (past_words rest)
+    go : (b : Bool) → starts_name c ≡ b → cond b (got (c ∷ run_of continues_name s) (after_run continues_name s)) (failed bad) ≡ got name rest
+        → bytes_in (beyond (c ∷ s)) ≤ bytes_in (past_words rest)
     go true h k =
         let is : after_run continues_name s ≡ rest = cc in
-        omega (arith, ap bytes_in (beyond_plain (c ∷ s) plain ∙ run_step c s (starts_in_look c h) ∙ sym (run_behind continues_name continues_in_look s) ∙ ap past_look is), run_words rest)
+        omega (
+          arith,
+          ap bytes_in (beyond_plain (c ∷ s) plain ∙ run_step c s (starts_in_look c h) ∙ sym (run_behind continues_name continues_in_look s) ∙ ap past_look is),
+          run_words rest,
+        )
     go false h k = cc
 
 -- a raw one
 pub raw_look : (s : Text) → opens_raw_name s ≡ true → bytes_in (beyond s) ≤ bytes_in (past_words (after_run in_raw_name (drop 2 s)))
 raw_look s e = omega (arith, ap bytes_in (beyond_raw s e), run_words (after_run in_raw_name (drop 2 s)))
 
-pub letters : (in_look 114 ≡ true) × (in_look 98 ≡ true) × (in_look 83 ≡ true) × (in_look 111 ≡ true) × (in_look 109 ≡ true) × (in_look 101 ≡ true) × (in_raw_name 35 ≡ false)
+pub letters : (in_look 114 ≡ true) × (in_look 98 ≡ true) × (in_look 83 ≡ true) × (in_look 111 ≡ true) × (in_look 109 ≡ true) × (in_look 101 ≡ true)
+    × (in_raw_name 35 ≡ false)
 unfolding unicode_ident
 letters = (refl, refl, refl, refl, refl, refl, refl)
 
@@ -76,5 +83,6 @@ byte_look t plain = omega (arith, ap bytes_in (beyond_plain (98 ∷ t) plain ∙
 pub some_look : (s rest : Text) → s ≡ codes "Some" ++ rest → bytes_in (beyond s) ≤ bytes_in (past_words rest)
 some_look s rest e =
     let k : beyond s ≡ past_look rest =
-    ap beyond e ∙ beyond_plain (83 ∷ 111 ∷ 109 ∷ 101 ∷ rest) refl ∙ run_step 83 (111 ∷ 109 ∷ 101 ∷ rest) letters.2 ∙ run_step 111 (109 ∷ 101 ∷ rest) letters.3 ∙ run_step 109 (101 ∷ rest) letters.4 ∙ run_step 101 rest letters.5 in
+    ap beyond e ∙ beyond_plain (83 ∷ 111 ∷ 109 ∷ 101 ∷ rest) refl ∙ run_step 83 (111 ∷ 109 ∷ 101 ∷ rest) letters.2 ∙ run_step 111 (109 ∷ 101 ∷ rest) letters.3
+    ∙ run_step 109 (101 ∷ rest) letters.4 ∙ run_step 101 rest letters.5 in
     omega (arith, ap bytes_in k, run_words rest)

@@ -5,8 +5,10 @@ use Rattle.ron_spec_words.specs.Characters.{Text, starts_name, continues_name, i
 use Rattle.ron_spec_words.specs.Runs.{is_at, begins_with}
 use Rattle.ron_spec_words.specs.Reader.{behind, run}
 use Rattle.ron_spec_words.specs.Exact.{IsWordReader}
-use Rattle.ron_spec_words.specs.Name.{opens_literal, PlainName, RawName, Name, name, if_same, Named, named, PlainIdentifier, plain_identifier, if_no_value_word, UntypedName, untyped_name}
-use Rattle.ron_spec_words.proofs.Words.{First, word_run, word_behind, word_not_before, word_when, word_choose, word_means, first_run, first_behind, first_not_before, first_when, first_means, first_or}
+use Rattle.ron_spec_words.specs.Name.{opens_literal, PlainName, RawName, Name, name, if_same, Named, named, PlainIdentifier, plain_identifier, if_no_value_word}
+use Rattle.ron_spec_words.specs.Name.{UntypedName, untyped_name}
+use Rattle.ron_spec_words.proofs.Words.{First, word_run, word_behind, word_not_before, word_when, word_choose, word_means, first_run, first_behind}
+use Rattle.ron_spec_words.proofs.Words.{first_not_before, first_when, first_means, first_or}
 use Rattle.ron_spec_words.proofs.Classes.{apart, Solid, solid_mark, solid_name, starts_bracket}
 
 or_false : (a b : Bool) → (a || b) ≡ false → (a ≡ false) × (b ≡ false)

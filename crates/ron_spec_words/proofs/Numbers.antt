@@ -9,8 +9,10 @@ use Rattle.ron_spec_words.specs.Lang.{Lang, When, Behind}
 use Rattle.ron_spec_words.specs.Reader.{deep, got, failed, behind}
 use Rattle.ron_spec_words.specs.Exact.{Takes, Answers, IsWordReader}
 use Rattle.ron_spec_words.specs.Directly.{stands}
-use Rattle.ron_spec_words.specs.Number.{Suffix, i8, i16, i32, i64, i128, u8, u16, u32, u64, u128, suffix_word, OptSuffix, in_number, InBase, opens_base, Magnitude, Unsigned, Number, suffixes, first_standing, past_suffix, opt_suffix, in_base, magnitude, unsigned, number}
-use Rattle.ron_spec_words.proofs.Words.{First, word_run, word_behind, word_choose, word_means, word_when, first_run, first_behind, first_or, first_means, first_when}
+use Rattle.ron_spec_words.specs.Number.{Suffix, i8, i16, i32, i64, i128, u8, u16, u32, u64, u128, suffix_word, OptSuffix, in_number, InBase, opens_base}
+use Rattle.ron_spec_words.specs.Number.{Magnitude, Unsigned, Number, suffixes, first_standing, past_suffix, opt_suffix, in_base, magnitude, unsigned, number}
+use Rattle.ron_spec_words.proofs.Words.{First, word_run, word_behind, word_choose, word_means, word_when, first_run, first_behind, first_or, first_means}
+use Rattle.ron_spec_words.proofs.Words.{first_when}
 use Rattle.ron_spec_words.proofs.Classes.{apart}
 use Rattle.ron_spec_words.proofs.Direct.{word_directly, first_directly, stands-splits}
 
@@ -21,7 +23,8 @@ found : (xs : List Suffix) (s : Text) (x : Suffix) → first_standing xs s ≡ S
 found [] s x e = absurd (cc)
 found (y ∷ ys) s x e = go (stands (suffix_word y) s) refl e (found ys s x)
   where
-    go : (b : Bool) → stands (suffix_word y) s ≡ b → cond b (Some y) (first_standing ys s) ≡ Some x → (first_standing ys s ≡ Some x → stands (suffix_word x) s ≡ true) → stands (suffix_word x) s ≡ true
+    go : (b : Bool) → stands (suffix_word y) s ≡ b → cond b (Some y) (first_standing ys s) ≡ Some x
+        → (first_standing ys s ≡ Some x → stands (suffix_word x) s ≡ true) → stands (suffix_word x) s ≡ true
     go true h k f = let same : y ≡ x = cc in ap (λ z. stands (suffix_word z) s) (sym same) ∙ h
     go false h k f = f k
 
@@ -34,7 +37,8 @@ none_found : (xs : List Suffix) (s : Text) → first_standing xs s ≡ None → 
 none_found [] s e = tt
 none_found (y ∷ ys) s e = go (stands (suffix_word y) s) refl e (none_found ys s)
   where
-    go : (b : Bool) → stands (suffix_word y) s ≡ b → cond b (Some y) (first_standing ys s) ≡ None → (first_standing ys s ≡ None → NoneStands ys s) → (stands (suffix_word y) s ≡ false) × NoneStands ys s
+    go : (b : Bool) → stands (suffix_word y) s ≡ b → cond b (Some y) (first_standing ys s) ≡ None → (first_standing ys s ≡ None → NoneStands ys s)
+        → (stands (suffix_word y) s ≡ false) × NoneStands ys s
     go true h k f = absurd (cc)
     go false h k f = (h, f k)
 
@@ -67,12 +71,17 @@ finds u32 next e = rw e refl
 finds u64 next e = rw e refl
 finds u128 next e = rw e refl
 
-suffix_takes : (s : Text) (o : Option Suffix) → first_standing suffixes s ≡ o → (a : Option Suffix) (rest : Text) → past_suffix o s ≡ got a rest → Takes OptSuffix s a rest
+suffix_takes : (s : Text) (o : Option Suffix) → first_standing suffixes s ≡ o → (a : Option Suffix) (rest : Text) → past_suffix o s ≡ got a rest
+    → Takes OptSuffix s a rest
 suffix_takes s (Some x) h a rest e =
     let z = stands-splits (suffix_word x) s (found suffixes s x h) in
     let u : drop (length (suffix_word x)) s ≡ rest = cc in
     let v : Some x ≡ a = cc in
-    rw (← v) (record { stretch = suffix_word x; split = z.0 ∙ ap (λ y. suffix_word x ++ y) u; spelled = record { same = refl; ends = ap (λ y. begins continues_name y) (sym u) ∙ z.1; value = refl } })
+    rw (← v) (record {
+      stretch = suffix_word x;
+      split = z.0 ∙ ap (λ y. suffix_word x ++ y) u;
+      spelled = record { same = refl; ends = ap (λ y. begins continues_name y) (sym u) ∙ z.1; value = refl };
+    })
 suffix_takes s None h a rest e =
     let u : s ≡ rest = cc in
     let v : None ≡ a = cc in
@@ -84,7 +93,11 @@ suffix_calm None s e = cc
 
 pub word_suffix : IsWordReader opt_suffix OptSuffix
 unfolding opt_suffix
-word_suffix = record { sound = λ s a rest e. suffix_takes s (first_standing suffixes s) refl a rest e; complete = from; calm = λ s e. suffix_calm (first_standing suffixes s) s e }
+word_suffix = record {
+  sound = λ s a rest e. suffix_takes s (first_standing suffixes s) refl a rest e;
+  complete = from;
+  calm = λ s e. suffix_calm (first_standing suffixes s) s e;
+}
   where
     from : (t next : Text) (a : Option Suffix) → OptSuffix t next a → Answers opt_suffix t next a
     from t next (Some x) l = record { answer = rw (l.same, finds x next l.ends) (ap (λ z. got (Some x) z) (drop-append_seam (suffix_word x) next)) }
@@ -121,12 +134,14 @@ pub word_magnitude : IsWordReader magnitude Magnitude
 unfolding magnitude
 word_magnitude =
     word_choose (begins_with (codes "0b")) (first_based (λ s. begins_with (codes "0b") s ≡ true) 98 2 (λ s. refl))
-    (first_or (first_based (λ s. begins_with (codes "0b") s ≡ false) 111 8 (λ s. refl)) (first_or (first_based (λ s. begins_with (codes "0b") s ≡ false) 120 16 (λ s. refl)) (decimal_first (codes "0b") (λ s e. (no_base s e).0))))
+    (first_or (first_based (λ s. begins_with (codes "0b") s ≡ false) 111 8 (λ s. refl))
+    (first_or (first_based (λ s. begins_with (codes "0b") s ≡ false) 120 16 (λ s. refl)) (decimal_first (codes "0b") (λ s e. (no_base s e).0))))
     (word_based 98 2)
     (word_choose (begins_with (codes "0o")) (first_based (λ s. begins_with (codes "0o") s ≡ true) 111 8 (λ s. refl))
     (first_or (first_based (λ s. begins_with (codes "0o") s ≡ false) 120 16 (λ s. refl)) (decimal_first (codes "0o") (λ s e. (no_base s e).1)))
     (word_based 111 8)
-    (word_choose (begins_with (codes "0x")) (first_based (λ s. begins_with (codes "0x") s ≡ true) 120 16 (λ s. refl)) (decimal_first (codes "0x") (λ s e. (no_base s e).2))
+    (word_choose (begins_with (codes "0x")) (first_based (λ s. begins_with (codes "0x") s ≡ true) 120 16 (λ s. refl))
+    (decimal_first (codes "0x") (λ s e. (no_base s e).2))
     (word_based 120 16)
     (word_when (λ s. not (opens_base s)) (word_in_base 10))))
 

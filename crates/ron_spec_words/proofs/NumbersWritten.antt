@@ -1,5 +1,6 @@
 -- A sign, decimal digits and a suffix spell an integer, before a text that no XID_Continue character begins.
-use Rattle.std.proofs.Common.{◌≡◌, ℕ, ◌+◌, ◌/◌, ◌%◌, ◌^◌, ◌<◌, ◌≤◌, nat_lt, nat_le, ◌⊎◌, ◌==◌, Bool, true, false, ◌||◌, length, [], ◌∷◌, ◌++◌, codes, decimal, Option, Some, None, inl, inr, refl, sym, ap, ◌∙◌, arith, length-append, eqb-true, leb-true}
+use Rattle.std.proofs.Common.{◌≡◌, ℕ, ◌+◌, ◌/◌, ◌%◌, ◌^◌, ◌<◌, ◌≤◌, nat_lt, nat_le, ◌⊎◌, ◌==◌, Bool, true, false, ◌||◌, length, [], ◌∷◌, ◌++◌, codes, decimal}
+use Rattle.std.proofs.Common.{Option, Some, None, inl, inr, refl, sym, ap, ◌∙◌, arith, length-append, eqb-true, leb-true}
 use Rattle.std.proofs.lemmas.Bool.{and_parts}
 use Rattle.std.proofs.lemmas.Fmt.{decimal_by_steps_wide}
 use Rattle.std.proofs.Math.Bool.{and-false}
@@ -9,7 +10,8 @@ use Rattle.unicode_ident.proofs.Computing.{unicode_ident}
 use Rattle.ron_spec_words.specs.Characters.{Text, continues_name}
 use Rattle.ron_spec_words.specs.Runs.{begins, is_at, Every, begins_with}
 use Rattle.ron_spec_words.specs.Directly.{stands}
-use Rattle.ron_spec_words.specs.Number.{Suffix, i8, i16, i32, i64, i128, u8, u16, u32, u64, u128, suffix_word, OptSuffix, in_number, is_below, place_value, digits_among, opens_base, Magnitude, Unsigned, Number}
+use Rattle.ron_spec_words.specs.Number.{Suffix, i8, i16, i32, i64, i128, u8, u16, u32, u64, u128, suffix_word, OptSuffix, in_number, is_below, place_value}
+use Rattle.ron_spec_words.specs.Number.{digits_among, opens_base, Magnitude, Unsigned, Number}
 use Rattle.ron_spec_words.proofs.Classes.{apart, AllFrom, among}
 use Rattle.ron_spec_words.proofs.NumberDigits.{place_value-digit, is_below-digit}
 
@@ -92,7 +94,19 @@ digits_of_ten : (d : ℕ) → d < 10 → IsDigitOf d
 digits_of_ten d h = among IsDigitOf 10 0 d (omega arith) (omega (arith, h)) all
   where
     all : AllFrom IsDigitOf 10 0
-    all = ((refl, refl, refl), ((refl, refl, refl), ((refl, refl, refl), ((refl, refl, refl), ((refl, refl, refl), ((refl, refl, refl), ((refl, refl, refl), ((refl, refl, refl), ((refl, refl, refl), ((refl, refl, refl), tt))))))))))
+    all = (
+      (refl, refl, refl),
+      (
+        (refl, refl, refl),
+        (
+          (refl, refl, refl),
+          (
+            (refl, refl, refl),
+            ((refl, refl, refl), ((refl, refl, refl), ((refl, refl, refl), ((refl, refl, refl), ((refl, refl, refl), ((refl, refl, refl), tt)))))),
+          ),
+        ),
+      ),
+    )
 
 every-append : (p : ℕ → Bool) (t : Text) (c : ℕ) → Every p t → p c ≡ true → Every p (t ++ c ∷ [])
 every-append p [] c h e = (e, tt)
@@ -102,7 +116,8 @@ pub decimal_is : (n : ℕ) → n < 10 ^ 64 → IsDecimal n (decimal n)
 decimal_is n h = decimal_by_steps_wide IsDecimal one more n h
   where
     one : (n : ℕ) → n < 10 → IsDecimal n ((48 + n) ∷ [])
-    one n h = let d = digits_of_ten n h in record { some = omega arith; hex = (d.0, tt); below = rw d.2 refl; value = place_value-digit 10 [] (48 + n) ∙ rw d.1 (omega arith) }
+    one n h = let d = digits_of_ten n h in
+        record { some = omega arith; hex = (d.0, tt); below = rw d.2 refl; value = place_value-digit 10 [] (48 + n) ∙ rw d.1 (omega arith) }
 
     more : (n : ℕ) (ds : Text) → 10 ≤ n → IsDecimal (n / 10) ds → IsDecimal n (ds ++ ((48 + n % 10) ∷ []))
     more n ds m y =
@@ -144,7 +159,8 @@ magnitude_written n [] u y a = absurd (let s = y.some in omega (arith, s))
 magnitude_written n (c ∷ ds) u y a =
     let b = (and_parts (nat_lt (digit_value c) 10) (is_below 10 ds) y.below).1 in
     let e = hex_digits (c ∷ ds) y.hex in
-    let no_base : opens_base ((c ∷ ds) ++ u) ≡ false = rw (no_mark 98 refl ds u b a.no_b, no_mark 111 refl ds u b a.no_o, no_mark 120 refl ds u b a.no_x, and-false (c == 48)) refl in
+    let no_base : opens_base ((c ∷ ds) ++ u) ≡ false =
+    rw (no_mark 98 refl ds u b a.no_b, no_mark 111 refl ds u b a.no_o, no_mark 120 refl ds u b a.no_x, and-false (c == 48)) refl in
     inr (inr (inr (
       rw no_base refl,
       record {
@@ -183,7 +199,8 @@ suffix_written : (x : Option Suffix) (next : Text) → begins continues_name nex
 suffix_written (Some x) next e = record { same = refl; ends = e; value = refl }
 suffix_written None next e = (refl, no_suffix next e)
 
-unsigned_written : (minus : Bool) (n : ℕ) (x : Option Suffix) (next : Text) → n < 10 ^ 64 → begins continues_name next ≡ false → Unsigned minus (decimal n ++ suffix_text x) next (record { minus = minus; magnitude = n; suffix = x })
+unsigned_written : (minus : Bool) (n : ℕ) (x : Option Suffix) (next : Text) → n < 10 ^ 64 → begins continues_name next ≡ false
+    → Unsigned minus (decimal n ++ suffix_text x) next (record { minus = minus; magnitude = n; suffix = x })
 unsigned_written minus n x next h e = record {
   value = n;
   left = decimal n;
@@ -198,6 +215,7 @@ abbrev pub sign_text : Bool → Text
 sign_text true = 45 ∷ []
 sign_text false = []
 
-pub number_written : (minus : Bool) (n : ℕ) (x : Option Suffix) (next : Text) → n < 10 ^ 64 → begins continues_name next ≡ false → Number (sign_text minus ++ (decimal n ++ suffix_text x)) next (record { minus = minus; magnitude = n; suffix = x })
+pub number_written : (minus : Bool) (n : ℕ) (x : Option Suffix) (next : Text) → n < 10 ^ 64 → begins continues_name next ≡ false
+    → Number (sign_text minus ++ (decimal n ++ suffix_text x)) next (record { minus = minus; magnitude = n; suffix = x })
 number_written true n x next h e = inr (inl (record { rest = decimal n ++ suffix_text x; split = refl; spelled = unsigned_written true n x next h e }))
 number_written false n x next h e = inr (inr (unsigned_written false n x next h e))

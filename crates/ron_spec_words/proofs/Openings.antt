@@ -1,5 +1,6 @@
 -- What stands behind the opening brackets of a text: token by token, and what the pass over it finds.
-use Rattle.std.proofs.Common.{◌≡◌, ℕ, zero, suc, ◌-◌, ◌<◌, ◌≤◌, Bool, true, false, cond, if◌then◌else◌, length, List, [], ◌∷◌, ◌++◌, map, append_assoc, Option, Some, None, option_map, refl, sym, ap, ap₂, ◌∙◌, length-append, arith}
+use Rattle.std.proofs.Common.{◌≡◌, ℕ, zero, suc, ◌-◌, ◌<◌, ◌≤◌, Bool, true, false, cond, if◌then◌else◌, length, List, [], ◌∷◌, ◌++◌, map, append_assoc, Option}
+use Rattle.std.proofs.Common.{Some, None, option_map, refl, sym, ap, ap₂, ◌∙◌, length-append, arith}
 use Rattle.std.specs.Prelude.{Contains}
 use Rattle.std.specs.Option.{unwrap_or}
 use Rattle.std.specs.List.{All}
@@ -61,7 +62,8 @@ insides_skip s = let k = cut s in ap insides k.split ∙ go (gap_of s) k.is_gap
   where
     go : (g : Text) → LongGap g (skip s) → insides (g ++ skip s) ≡ insides (skip s)
     go [] h = refl
-    go (c ∷ g) h = insides_within c (g ++ skip s) (skip s) (token_gap c g (skip s) h) (or_parts (is_opening c) _ (not-true _ (gap_other c (gap_starts c g (skip s) h.is_gap)))).0
+    go (c ∷ g) h = insides_within c (g ++ skip s) (skip s) (token_gap c g (skip s) h)
+        (or_parts (is_opening c) _ (not-true _ (gap_other c (gap_starts c g (skip s) h.is_gap)))).0
 
 -- ---- all tokens
 
@@ -99,7 +101,8 @@ kinds_of_here c s = elim (is_opening c) as (λ b. cond b (kind s ∷ []) [] ≡ 
 
 kinds_step : (c : ℕ) (s rest : Text) → token (c ∷ s) ≡ Some rest → kinds rest ≡ map kind (insides rest) → kinds (c ∷ s) ≡ map kind (insides (c ∷ s))
 kinds_step c s rest h k =
-    kinds_over c s rest h ∙ ap₂ (λ x y. x ++ y) (kinds_of_here c s) k ∙ sym (map-append kind (insides_here c s) (insides rest)) ∙ ap (map kind) (sym (insides_over c s rest h))
+    kinds_over c s rest h ∙ ap₂ (λ x y. x ++ y) (kinds_of_here c s) k ∙ sym (map-append kind (insides_here c s) (insides rest))
+    ∙ ap (map kind) (sym (insides_over c s rest h))
 
 pub kinds_of_insides : AreKindsOfInsides
 kinds_of_insides = by_tokens (λ s. kinds s ≡ map kind (insides s)) (record {
@@ -135,7 +138,8 @@ all_ends : (s : Text) → All (IsEnd s) (insides s)
 all_ends = by_tokens (λ s. All (IsEnd s) (insides s)) (record {
   over_end = rw insides_end (All-nil (IsEnd []));
   over_broken = λ c s h. rw (insides_broken c s h) (All-nil (IsEnd (c ∷ s)));
-  over_open = λ c s o k. rw (insides_open c s o) (All-cons (IsEnd (c ∷ s)) s (insides s) (c ∷ [], refl) (λ i d lt. end_over c s s _ (opening_alone c s o) (k i d lt)));
+  over_open =
+      λ c s o k. rw (insides_open c s o) (All-cons (IsEnd (c ∷ s)) s (insides s) (c ∷ [], refl) (λ i d lt. end_over c s s _ (opening_alone c s o) (k i d lt)));
   over_token = λ c s rest h o k. rw (insides_within c s rest h o) (λ i d lt. end_over c s rest _ h (k i d lt));
 })
 
@@ -176,7 +180,8 @@ module _ (n : ℕ) where
   places_rise = by_tokens (λ s. IsNonDecreasing (map place (insides s))) (record {
     over_end = rw insides_end nothing_falls;
     over_broken = λ c s h. rw (insides_broken c s h) nothing_falls;
-    over_open = λ c s o k. rw (insides_open c s o) (first_least (place s) (map place (insides s)) (All-map (λ m. place s ≤ m) place (insides s) (λ i d lt. let l = all_within s i d lt in omega (arith, l))) k);
+    over_open = λ c s o k. rw (insides_open c s o) (first_least (place s) (map place (insides s))
+        (All-map (λ m. place s ≤ m) place (insides s) (λ i d lt. let l = all_within s i d lt in omega (arith, l))) k);
     over_token = λ c s rest h o k. rw (insides_within c s rest h o) k;
   })
 

@@ -13,20 +13,28 @@ use Rattle.ron_spec_words.proofs.Walks.{walk_on, walk_any, walk_within, is_other
 -- ---- words
 
 -- what is one token, and neither a bracket nor a comma
-pub passes_token : {A : Type 0} {b : Bool} {L : Lang A} {F : Text → Type 0} → First (λ s. begins is_other s ≡ true) L → ((t next : Text) (a : A) → L t next a → F next → token (t ++ next) ≡ Some next) → Passes b L F
+pub passes_token : {A : Type 0} {b : Bool} {L : Lang A} {F : Text → Type 0} → First (λ s. begins is_other s ≡ true) L
+    → ((t next : Text) (a : A) → L t next a → F next → token (t ++ next) ≡ Some next) → Passes b L F
 passes_token {b = b} h k = record { over = λ d t next a z f n. walk_token b d t next (h.holds t next a z) (k t next a z f) }
 
 -- a character that is a token by itself, and neither a bracket nor a comma
-pub passes_mark : {A : Type 0} {b : Bool} {F : Text → Type 0} (c : ℕ) (a : A) → is_other c ≡ true → ((s : Text) → token (c ∷ s) ≡ Some s) → Passes b (Mark c a) F
+pub passes_mark : {A : Type 0} {b : Bool} {F : Text → Type 0} (c : ℕ) (a : A) → is_other c ≡ true → ((s : Text) → token (c ∷ s) ≡ Some s)
+    → Passes b (Mark c a) F
 passes_mark {b = b} c a h k = record { over = λ d t next x z f n. rw z.0 (walk_token b d (c ∷ []) next h (k next)) }
 
 -- the same, and directly behind it what begins no gap
-pub passes_behind : {A : Type 0} {b : Bool} {L : Lang A} {F : Text → Type 0} (c : ℕ) → is_other c ≡ true → ((s : Text) → token (c ∷ s) ≡ Some s) → First (λ s. skip s ≡ s) L → Passes b L F → Passes b (Behind c L) F
-passes_behind {b = b} c h k o p = record { over = λ d t next a z f n. rw z.split (walk_on (walk_token b d (c ∷ []) (z.rest ++ next) h (k (z.rest ++ next))) (p.over d z.rest next a z.spelled f (o.holds z.rest next a z.spelled))) }
+pub passes_behind : {A : Type 0} {b : Bool} {L : Lang A} {F : Text → Type 0} (c : ℕ) → is_other c ≡ true → ((s : Text) → token (c ∷ s) ≡ Some s)
+    → First (λ s. skip s ≡ s) L → Passes b L F → Passes b (Behind c L) F
+passes_behind {b = b} c h k o p = record {
+  over = λ d t next a z f n. rw z.split
+      (walk_on (walk_token b d (c ∷ []) (z.rest ++ next) h (k (z.rest ++ next))) (p.over d z.rest next a z.spelled f (o.holds z.rest next a z.spelled)));
+}
 
 -- brackets with nothing between them
-pub passes_empty_brackets : {A : Type 0} {b : Bool} {F : Text → Type 0} (o c : ℕ) (a : A) → is_opening o ≡ true → is_closing c ≡ true → Passes b (Behind o (Mark c a)) F
-passes_empty_brackets {b = b} o c a h k = record { over = λ d t next x z f n. rw (z.split, z.spelled.0) (walk_on (walk_open b d o (c ∷ next) h) (walk_close b d c next k)) }
+pub passes_empty_brackets : {A : Type 0} {b : Bool} {F : Text → Type 0} (o c : ℕ) (a : A) → is_opening o ≡ true → is_closing c ≡ true
+    → Passes b (Behind o (Mark c a)) F
+passes_empty_brackets {b = b} o c a h k =
+    record { over = λ d t next x z f n. rw (z.split, z.spelled.0) (walk_on (walk_open b d o (c ∷ next) h) (walk_close b d c next k)) }
 
 -- ---- meanings and choices
 
@@ -63,15 +71,19 @@ passes_any b h = record { over = λ d t next a z f n. walk_any b (h.over d t nex
 -- ---- what gaps join
 
 -- a stretch, a gap and a stretch
-walk_three : (b : Bool) (d : ℕ) (left gap right next : Text) → Walk b d (left ++ (gap ++ (right ++ next))) d (gap ++ (right ++ next)) → LongGap gap (right ++ next) → Walk b d (right ++ next) d next → Walk b d ((left ++ (gap ++ right)) ++ next) d next
+walk_three : (b : Bool) (d : ℕ) (left gap right next : Text) → Walk b d (left ++ (gap ++ (right ++ next))) d (gap ++ (right ++ next))
+    → LongGap gap (right ++ next) → Walk b d (right ++ next) d next → Walk b d ((left ++ (gap ++ right)) ++ next) d next
 walk_three b d left gap right next v g w = rw (three left gap right next) (walk_on v (walk_on (walk_gap b d gap (right ++ next) g) w))
 
-pub passes_then : {A B : Type 0} {b : Bool} {L : Lang A} {M : A → Text → Lang B} {F G : Text → Type 0} → Passes b L F → ((a : A) (gap : Text) → Passes b (M a gap) G)
-    → ((a : A) (gap right next : Text) (x : B) → LongGap gap (right ++ next) → M a gap right next x → G next → F (gap ++ (right ++ next))) → Passes b (Then L M) G
+pub passes_then : {A B : Type 0} {b : Bool} {L : Lang A} {M : A → Text → Lang B} {F G : Text → Type 0} → Passes b L F
+    → ((a : A) (gap : Text) → Passes b (M a gap) G)
+    → ((a : A) (gap right next : Text) (x : B) → LongGap gap (right ++ next) → M a gap right next x → G next → F (gap ++ (right ++ next)))
+    → Passes b (Then L M) G
 passes_then {b = b} h k follows = record {
   over = λ d t next x z g n.
       let n' : skip (z.left ++ (z.gap ++ (z.right ++ next))) ≡ z.left ++ (z.gap ++ (z.right ++ next)) = rw (z.split, three z.left z.gap z.right next) at n in
-      rw z.split (walk_three b d z.left z.gap z.right next (h.over d z.left (z.gap ++ (z.right ++ next)) z.value z.first (follows z.value z.gap z.right next x z.is_gap z.second g) n') z.is_gap
+      rw z.split (walk_three b d z.left z.gap z.right next
+      (h.over d z.left (z.gap ++ (z.right ++ next)) z.value z.first (follows z.value z.gap z.right next x z.is_gap z.second g) n') z.is_gap
       ((k z.value z.gap).over d z.right next x z.second g z.is_gap.longest));
 }
 
@@ -81,30 +93,38 @@ passes_comma a = record { over = λ d t next x z f n. rw z.0 (walk_comma d next)
 pub passes_opt_comma : {A : Type 0} {F : Text → Type 0} (a : A) → Passes true (OptComma a) F
 passes_opt_comma a = passes_or (passes_comma a) (passes_empty a)
 
-module _ {A : Type 0} (L : List A → Text → Lang A) (close : ℕ) (is_close : is_delimiter close ≡ true) (h : (seen : List A) (gap : Text) → Passes false (L seen gap) FollowsValue) where
+module _ {A : Type 0} (L : List A → Text → Lang A) (close : ℕ) (is_close : is_delimiter close ≡ true)
+    (h : (seen : List A) (gap : Text) → Passes false (L seen gap) FollowsValue) where
   -- an item, and then the rest of the items
-  item_over : (seen : List A) (before : Text) (d : ℕ) (t next : Text) (a : A) (xs : List A) (z : Then (At (L seen before) a) (λ _ _ u n _. Tail L (a ∷ seen) u n xs) t next done) → Before close next → skip (t ++ next) ≡ t ++ next
+  item_over : (seen : List A) (before : Text) (d : ℕ) (t next : Text) (a : A) (xs : List A)
+      (z : Then (At (L seen before) a) (λ _ _ u n _. Tail L (a ∷ seen) u n xs) t next done) → Before close next → skip (t ++ next) ≡ t ++ next
       → Walk true d (z.right ++ next) d next → Walk true d (t ++ next) d next
   item_over seen before d t next a xs z f n w =
       let n' : skip (z.left ++ (z.gap ++ (z.right ++ next))) ≡ z.left ++ (z.gap ++ (z.right ++ next)) = rw (z.split, three z.left z.gap z.right next) at n in
       let stops = stops_gap z.gap (z.right ++ next) z.is_gap (tail_stops L close is_close (a ∷ seen) z.right next xs z.second f z.is_gap.longest) in
-      rw z.split (walk_three true d z.left z.gap z.right next (walk_any true ((h seen before).over d z.left (z.gap ++ (z.right ++ next)) a z.first stops n')) z.is_gap w)
+      rw z.split
+      (walk_three true d z.left z.gap z.right next (walk_any true ((h seen before).over d z.left (z.gap ++ (z.right ++ next)) a z.first stops n')) z.is_gap w)
 
-  tail_over : (seen : List A) (d : ℕ) (t next : Text) (xs : List A) → Tail L seen t next xs → Before close next → skip (t ++ next) ≡ t ++ next → Walk true d (t ++ next) d next
+  tail_over : (seen : List A) (d : ℕ) (t next : Text) (xs : List A) → Tail L seen t next xs → Before close next → skip (t ++ next) ≡ t ++ next
+      → Walk true d (t ++ next) d next
   tail_over seen d t next [] (inl z) f n = rw z.0 (here d next)
-  tail_over seen d t next [] (inr z) f n = rw z.split (walk_three true d z.left z.gap z.right next (rw z.first.0 (walk_comma d (z.gap ++ (z.right ++ next)))) z.is_gap (rw z.second.0 (here d next)))
+  tail_over seen d t next [] (inr z) f n =
+      rw z.split (walk_three true d z.left z.gap z.right next (rw z.first.0 (walk_comma d (z.gap ++ (z.right ++ next)))) z.is_gap (rw z.second.0 (here d next)))
   tail_over seen d t next (a ∷ xs) z f n =
       rw z.split (walk_three true d z.left z.gap z.right next (rw z.first.0 (walk_comma d (z.gap ++ (z.right ++ next)))) z.is_gap
-      (item_over seen z.gap d z.right next a xs z.second f z.is_gap.longest (tail_over (a ∷ seen) d z.second.right next xs z.second.second f z.second.is_gap.longest)))
+      (item_over seen z.gap d z.right next a xs z.second f z.is_gap.longest
+      (tail_over (a ∷ seen) d z.second.right next xs z.second.second f z.second.is_gap.longest)))
 
-  items_over : (before : Text) (d : ℕ) (t next : Text) (xs : List A) → Items L before t next xs → Before close next → skip (t ++ next) ≡ t ++ next → Walk true d (t ++ next) d next
+  items_over : (before : Text) (d : ℕ) (t next : Text) (xs : List A) → Items L before t next xs → Before close next → skip (t ++ next) ≡ t ++ next
+      → Walk true d (t ++ next) d next
   items_over before d t next [] z f n = rw z (here d next)
   items_over before d t next (a ∷ xs) z f n = item_over [] before d t next a xs z f n (tail_over (a ∷ []) d z.right next xs z.second f z.is_gap.longest)
 
   pub passes_items : (before : Text) → Passes true (Items L before) (Before close)
   passes_items before = record { over = λ d t next xs z f n. items_over before d t next xs z f n }
 
-pub passes_group : {A : Type 0} {b : Bool} {F : Text → Type 0} (o c : ℕ) {L : Text → Lang A} → is_opening o ≡ true → is_closing c ≡ true → ((gap : Text) → Passes true (L gap) (Before c)) → Passes b (Group o c L) F
+pub passes_group : {A : Type 0} {b : Bool} {F : Text → Type 0} (o c : ℕ) {L : Text → Lang A} → is_opening o ≡ true → is_closing c ≡ true
+    → ((gap : Text) → Passes true (L gap) (Before c)) → Passes b (Group o c L) F
 passes_group {b = b} o c h k p = record {
   over = λ d t next a z f n.
       let y = z.second in
@@ -113,7 +133,9 @@ passes_group {b = b} o c h k p = record {
       let follows : Before c inside = closes c y.value y.gap y.right next a y.is_gap y.second tt in
       let content : Walk b (suc d) (y.left ++ inside) (suc d) inside = walk_within ((p z.gap).over d y.left inside y.value y.first follows n') in
       let close : Walk b (suc d) (y.right ++ next) d next = rw y.second.0 (walk_close b d c next k) in
-      let behind : Walk b (suc d) (z.right ++ next) d next = rw (y.split, three y.left y.gap y.right next) (walk_on content (walk_on (walk_gap b (suc d) y.gap (y.right ++ next) y.is_gap) close)) in
-      let opening : Walk b d (z.left ++ (z.gap ++ (z.right ++ next))) (suc d) (z.gap ++ (z.right ++ next)) = rw z.first.0 (walk_open b d o (z.gap ++ (z.right ++ next)) h) in
+      let behind : Walk b (suc d) (z.right ++ next) d next =
+      rw (y.split, three y.left y.gap y.right next) (walk_on content (walk_on (walk_gap b (suc d) y.gap (y.right ++ next) y.is_gap) close)) in
+      let opening : Walk b d (z.left ++ (z.gap ++ (z.right ++ next))) (suc d) (z.gap ++ (z.right ++ next)) =
+      rw z.first.0 (walk_open b d o (z.gap ++ (z.right ++ next)) h) in
       rw (z.split, three z.left z.gap z.right next) (walk_on opening (walk_on (walk_gap b (suc d) z.gap (z.right ++ next) z.is_gap) behind));
 }

@@ -1,5 +1,6 @@
 -- The pieces of a string one at a time, without the bound on its length, and plain characters in a row: for `ron_lex`.
-use Rattle.std.proofs.Common.{◌≡◌, ℕ, zero, suc, ◌<◌, ◌==◌, false, cond, length, [], ◌∷◌, ◌++◌, flat_map, refl, ap, ◌∙◌, arith, append_assoc, length-append, sym}
+use Rattle.std.proofs.Common.{◌≡◌, ℕ, zero, suc, ◌<◌, ◌==◌, false, cond, length, [], ◌∷◌, ◌++◌, flat_map, refl, ap, ◌∙◌, arith, append_assoc, length-append}
+use Rattle.std.proofs.Common.{sym}
 use Rattle.ron_spec_words.specs.Characters.{Text}
 use Rattle.ron_spec_words.specs.Runs.{is_at}
 use Rattle.ron_spec_words.specs.Lang.{Lang}
@@ -50,7 +51,8 @@ module _ (r : Reader Text) (P : Lang Text) (h : IsPieceReader r P) where
   pieces-fault s f n e = pieces-step s ∙ rw (n, e) refl
 
   -- one piece more behind those that a loop has read so far
-  pub pieces-more : (start s a u so_far : Text) → pieces r start ≡ meant (pieces r s) (append so_far) → is_at 34 s ≡ false → r s ≡ got a u → pieces r start ≡ meant (pieces r u) (append (so_far ++ a))
+  pub pieces-more : (start s a u so_far : Text) → pieces r start ≡ meant (pieces r s) (append so_far) → is_at 34 s ≡ false → r s ≡ got a u
+      → pieces r start ≡ meant (pieces r u) (append (so_far ++ a))
   pieces-more start s a u so_far e n k = e ∙ ap (λ y. meant y (append so_far)) (pieces-piece s a u n k) ∙ meant-twice (pieces r u) so_far a
 
 -- ---- plain characters
@@ -66,7 +68,8 @@ meant-none (failed f) = refl
 
 module _ (give : ℕ → Text) (e : Reader Text) (E : Lang Text) (h : AllEscaped is_mark E) (k : IsWordReader e E) where
   -- a plain character is a piece
-  pub pieces-character : (c : ℕ) (s : Text) → (c == 34) ≡ false → (c == 92) ≡ false → pieces (string_piece give e) (c ∷ s) ≡ meant (pieces (string_piece give e) s) (append (give c))
+  pub pieces-character : (c : ℕ) (s : Text) → (c == 34) ≡ false → (c == 92) ≡ false
+      → pieces (string_piece give e) (c ∷ s) ≡ meant (pieces (string_piece give e) s) (append (give c))
   pieces-character c s n m = pieces-step (string_piece give e) (StringPiece give E) (piece_reader give h k) (c ∷ s) ∙ rw (n, m) refl
 
   -- so is each of a run of them

@@ -1,5 +1,6 @@
 -- Characters, bytes, strings and byte strings between quotes are read exactly: for the words of literals.
-use Rattle.std.proofs.Common.{◌≡◌, ℕ, zero, suc, ◌≤◌, ◌<◌, ◌==◌, Bool, true, false, not, ◌&&◌, ◌||◌, cond, length, [], ◌∷◌, ◌++◌, codes, encode_utf8, Option, Some, None, inl, inr, refl, arith, append_assoc, length-append}
+use Rattle.std.proofs.Common.{◌≡◌, ℕ, zero, suc, ◌≤◌, ◌<◌, ◌==◌, Bool, true, false, not, ◌&&◌, ◌||◌, cond, length, [], ◌∷◌, ◌++◌, codes, encode_utf8, Option}
+use Rattle.std.proofs.Common.{Some, None, inl, inr, refl, arith, append_assoc, length-append}
 use Rattle.std.proofs.lemmas.Bool.{or_parts, or_right}
 use Rattle.std.specs.Char.{is_ascii}
 use Rattle.ron_spec_words.specs.Characters.{Text}
@@ -8,11 +9,17 @@ use Rattle.ron_spec_words.specs.Lang.{Lang, Mark, Means, Or, When}
 use Rattle.ron_spec_words.specs.Reader.{deep, got, failed, Reader, mark, means}
 use Rattle.ron_spec_words.specs.Exact.{Sound, IsWordReader}
 use Rattle.ron_spec_words.specs.Directly.{Directly, AnyOne, directly}
-use Rattle.ron_spec_words.specs.Quoted.{SingleQuoted, if_no_backslash, if_ascii_no_backslash, Char, Byte, Pieces, close, piece, if_plain, StringPiece, itself, gives, StringEscape, ByteStringEscape, QuotedString, QuotedBytes, single_quoted, char, byte, append, pieces_in, pieces, opens_continuation, string_piece, string_escape, byte_string_escape, quoted_string, quoted_bytes}
-use Rattle.ron_spec_words.proofs.Words.{First, meant_calm, sound_like, sound_pick, sound_means, answers_means, word_behind, word_choose, word_means, word_mark, word_fail, first_or, first_means, pick_calm}
+use Rattle.ron_spec_words.specs.Quoted.{SingleQuoted, if_no_backslash, if_ascii_no_backslash, Char, Byte, Pieces, close, piece, if_plain, StringPiece, itself}
+use Rattle.ron_spec_words.specs.Quoted.{gives, StringEscape, ByteStringEscape, QuotedString, QuotedBytes, single_quoted, char, byte, append, pieces_in, pieces}
+use Rattle.ron_spec_words.specs.Quoted.{opens_continuation, string_piece, string_escape, byte_string_escape, quoted_string, quoted_bytes}
+use Rattle.ron_spec_words.proofs.Words.{First, meant_calm, sound_like, sound_pick, sound_means, answers_means, word_behind, word_choose, word_means, word_mark}
+use Rattle.ron_spec_words.proofs.Words.{word_fail, first_or, first_means, pick_calm}
 use Rattle.ron_spec_words.proofs.Classes.{apart}
 use Rattle.ron_spec_words.proofs.Direct.{sound_directly, directly-append, directly_calm, word_directly, word_any, first_any}
-use Rattle.ron_spec_words.proofs.Escapes.{word_hex_byte, word_hex_ascii, word_unicode, word_hex_character, word_escape, word_continuation, AllEscaped, Escaped, escaped_or, escaped_means, escaped_weaker, escaped_byte, escaped_unicode, escaped_character, escaped_escape, escaped_nothing, escaped_continuation, first_escaped, is_x, is_u, is_plain, is_mark, is_line_end, escaped_plain, marked, not_marked}
+use Rattle.ron_spec_words.proofs.Escapes.{word_hex_byte, word_hex_ascii, word_unicode, word_hex_character, word_escape, word_continuation, AllEscaped, Escaped}
+use Rattle.ron_spec_words.proofs.Escapes.{escaped_or, escaped_means, escaped_weaker, escaped_byte, escaped_unicode, escaped_character, escaped_escape}
+use Rattle.ron_spec_words.proofs.Escapes.{escaped_nothing, escaped_continuation, first_escaped, is_x, is_u, is_plain, is_mark, is_line_end, escaped_plain}
+use Rattle.ron_spec_words.proofs.Escapes.{marked, not_marked}
 
 -- ---- one character
 
@@ -41,7 +48,8 @@ word_char = word_single (word_choose (is_at 92) (slash_first (escaped_escape (es
 pub word_byte : IsWordReader byte Byte
 unfolding byte
 word_byte = word_behind 98 _ _ (word_single (word_choose (is_at 92) (slash_first (escaped_escape escaped_byte escaped_nothing))
-    (first_any (λ s. is_at 92 s ≡ false) if_ascii_no_backslash (λ c s a k. (no_meaning (c == 92) (Some c) a (with_meaning (is_ascii c) (if_no_backslash c) a k)).0))
+    (first_any (λ s. is_at 92 s ≡ false) if_ascii_no_backslash
+    (λ c s a k. (no_meaning (c == 92) (Some c) a (with_meaning (is_ascii c) (if_no_backslash c) a k)).0))
     (word_escape escaped_byte escaped_nothing word_hex_byte word_fail)
     (word_means if_ascii_no_backslash word_any)))
 
@@ -57,9 +65,11 @@ append_is : (a b c : Text) → append a b ≡ Some c → a ++ b ≡ c
 append_is a b c e = cc
 
 module _ (r : Reader Text) (P : Lang Text) (h : IsPieceReader r P) where
-  pieces_of : (t next b : Text) → Or (When (is_at 34) (Mark 34 [])) (When (λ s. not (is_at 34 s)) (Directly P (λ a. Means (Pieces P) (append a)))) t next b → Pieces P t next b
+  pieces_of : (t next b : Text) → Or (When (is_at 34) (Mark 34 [])) (When (λ s. not (is_at 34 s)) (Directly P (λ a. Means (Pieces P) (append a)))) t next b
+      → Pieces P t next b
   pieces_of t next b (inl z) = rw (z.1.0, ← z.1.1) close
-  pieces_of t next b (inr z) = let d = z.1 in rw (d.split, ← append_is d.value d.second.value b d.second.meant) (piece d.left d.right next d.value d.second.value d.first d.second.spelled)
+  pieces_of t next b (inr z) = let d = z.1 in
+      rw (d.split, ← append_is d.value d.second.value b d.second.meant) (piece d.left d.right next d.value d.second.value d.first d.second.spelled)
 
   pieces_sound : (fuel : ℕ) → Sound (pieces_in r fuel) (Pieces P)
   pieces_sound zero s b rest e = absurd (cc)
@@ -67,7 +77,8 @@ module _ (r : Reader Text) (P : Lang Text) (h : IsPieceReader r P) where
       sound_like _ (Or (When (is_at 34) (Mark 34 [])) (When (λ s. not (is_at 34 s)) (Directly P (λ a. Means (Pieces P) (append a))))) (Pieces P) pieces_of
       (sound_pick (is_at 34) (mark 34 []) (directly r (λ a. means (pieces_in r fuel) (append a))) (Mark 34 []) (Directly P (λ a. Means (Pieces P) (append a)))
       (word_mark 34 []).sound
-      (sound_directly r (λ a. means (pieces_in r fuel) (append a)) P (λ a. Means (Pieces P) (append a)) h.is_word.sound (λ a. sound_means (pieces_in r fuel) (Pieces P) (append a) (pieces_sound fuel))))
+      (sound_directly r (λ a. means (pieces_in r fuel) (append a)) P (λ a. Means (Pieces P) (append a)) h.is_word.sound
+      (λ a. sound_means (pieces_in r fuel) (Pieces P) (append a) (pieces_sound fuel))))
       s b rest e
 
   pieces_at : (fuel : ℕ) {t next b : Text} → Pieces P t next b → length t < fuel → pieces_in r fuel (t ++ next) ≡ got b next
@@ -81,7 +92,8 @@ module _ (r : Reader Text) (P : Lang Text) (h : IsPieceReader r P) where
 
   pieces_calm : (fuel : ℕ) (s : Text) → pieces_in r fuel s ≡ failed deep → ⊥
   pieces_calm zero s e = cc
-  pieces_calm (suc fuel) s e = pick_calm (is_at 34 s) (mark 34 [] s) (directly r (λ a. means (pieces_in r fuel) (append a)) s) ((word_mark {A = Text} 34 []).calm s)
+  pieces_calm (suc fuel) s e =
+      pick_calm (is_at 34 s) (mark 34 [] s) (directly r (λ a. means (pieces_in r fuel) (append a)) s) ((word_mark {A = Text} 34 []).calm s)
       (directly_calm r (λ a. means (pieces_in r fuel) (append a)) h.is_word.calm (λ a u k. means_calm fuel a u (pieces_calm fuel u) k) s) e
     where
       means_calm : (fuel : ℕ) (a u : Text) → (pieces_in r fuel u ≡ failed deep → ⊥) → means (pieces_in r fuel) (append a) u ≡ failed deep → ⊥
@@ -96,20 +108,24 @@ module _ (r : Reader Text) (P : Lang Text) (h : IsPieceReader r P) where
 
 -- ---- the pieces of strings and of byte strings
 
-plain_first : (give : ℕ → Text) (P : Text → Type 0) → ((c : ℕ) (s : Text) → (c == 34) ≡ false → (c == 92) ≡ false → P (c ∷ s)) → First P (Means AnyOne (if_plain give))
-plain_first give P k = first_any P (if_plain give) (λ c s a e. let f = or_parts (c == 34) (c == 92) (no_meaning ((c == 34) || (c == 92)) (Some (give c)) a e).0 in k c s f.0 f.1)
+plain_first : (give : ℕ → Text) (P : Text → Type 0) → ((c : ℕ) (s : Text) → (c == 34) ≡ false → (c == 92) ≡ false → P (c ∷ s))
+    → First P (Means AnyOne (if_plain give))
+plain_first give P k =
+    first_any P (if_plain give) (λ c s a e. let f = or_parts (c == 34) (c == 92) (no_meaning ((c == 34) || (c == 92)) (Some (give c)) a e).0 in k c s f.0 f.1)
 
 starts_with_length : (p : ℕ → Bool) (t : Text) → Escaped p t → 1 ≤ length t
 starts_with_length p t h = rw h.same (omega arith)
 
-pub piece_reader : (give : ℕ → Text) {e : Reader Text} {E : Lang Text} → AllEscaped is_mark E → IsWordReader e E → IsPieceReader (string_piece give e) (StringPiece give E)
+pub piece_reader : (give : ℕ → Text) {e : Reader Text} {E : Lang Text} → AllEscaped is_mark E → IsWordReader e E
+    → IsPieceReader (string_piece give e) (StringPiece give E)
 piece_reader give {e} {E} h k = record {
   is_word = word_choose opens_continuation
       (first_escaped (λ s. opens_continuation s ≡ true) opens escaped_continuation)
       (first_or (first_escaped (λ s. opens_continuation s ≡ false) opens_not h) (plain_first give (λ s. opens_continuation s ≡ false) (λ c s e f. rw f refl)))
       word_continuation
       (word_choose (is_at 92) (slash_first h) (plain_first give (λ s. is_at 92 s ≡ false) (λ c s e f. f)) k (word_means (if_plain give) word_any));
-  no_quote = first_or (first_escaped (λ s. is_at 34 s ≡ false) (λ c s e. refl) escaped_continuation) (first_or (first_escaped (λ s. is_at 34 s ≡ false) (λ c s e. refl) h) (plain_first give (λ s. is_at 34 s ≡ false) (λ c s e f. e)));
+  no_quote = first_or (first_escaped (λ s. is_at 34 s ≡ false) (λ c s e. refl) escaped_continuation)
+      (first_or (first_escaped (λ s. is_at 34 s ≡ false) (λ c s e. refl) h) (plain_first give (λ s. is_at 34 s ≡ false) (λ c s e f. e)));
   some_length = long;
 }
   where
@@ -118,7 +134,8 @@ piece_reader give {e} {E} h k = record {
     thirteen false e = e
 
     opens : (c : ℕ) (s : Text) → is_line_end c ≡ true → opens_continuation (92 ∷ c ∷ s) ≡ true
-    opens c s k = elim (c == 10) as (λ b. ((c == 13) || b) ≡ true → ((b && true) || ((c == 13) && true)) ≡ true) [ true ↦ λ e. refl | false ↦ λ e. thirteen (c == 13) e ] k
+    opens c s k = elim (c == 10)
+        as (λ b. ((c == 13) || b) ≡ true → ((b && true) || ((c == 13) && true)) ≡ true) [ true ↦ λ e. refl | false ↦ λ e. thirteen (c == 13) e ] k
 
     opens_not : (c : ℕ) (s : Text) → is_mark c ≡ true → opens_continuation (92 ∷ c ∷ s) ≡ false
     opens_not c s k = rw (apart is_mark 10 c refl k, apart is_mark 13 c refl k) refl
@@ -132,7 +149,8 @@ pub escaped_string : AllEscaped is_mark StringEscape
 escaped_string = escaped_means (escaped_escape escaped_character escaped_unicode)
 
 pub escaped_byte_string : AllEscaped is_mark ByteStringEscape
-escaped_byte_string = escaped_or (escaped_means (escaped_weaker is_u is_mark (λ c k. or_right (is_x c) _ (rw k refl)) escaped_unicode)) (escaped_means (escaped_escape escaped_byte escaped_nothing))
+escaped_byte_string = escaped_or (escaped_means (escaped_weaker is_u is_mark (λ c k. or_right (is_x c) _ (rw k refl)) escaped_unicode))
+    (escaped_means (escaped_escape escaped_byte escaped_nothing))
 
 pub word_string_escape : IsWordReader string_escape StringEscape
 unfolding string_escape
@@ -140,7 +158,8 @@ word_string_escape = word_means (gives itself) (word_escape escaped_character es
 
 pub word_byte_string_escape : IsWordReader byte_string_escape ByteStringEscape
 unfolding byte_string_escape
-word_byte_string_escape = word_choose (begins_with (codes "\\u")) (first_means (marked 117 escaped_unicode)) (first_means (first_or (not_marked 117 is_x refl escaped_byte) (first_or (not_marked 117 is_x refl escaped_nothing) (not_marked 117 is_plain refl escaped_plain))))
+word_byte_string_escape = word_choose (begins_with (codes "\\u")) (first_means (marked 117 escaped_unicode)) (first_means
+    (first_or (not_marked 117 is_x refl escaped_byte) (first_or (not_marked 117 is_x refl escaped_nothing) (not_marked 117 is_plain refl escaped_plain))))
     (word_means (gives encode_utf8) word_unicode)
     (word_means (gives itself) (word_escape escaped_byte escaped_nothing word_hex_byte word_fail))
 

@@ -14,7 +14,8 @@ use Rattle.ron_spec_words.specs.Name.{opens_literal, Name, PlainIdentifier, Unty
 use Rattle.ron_spec_words.specs.Number.{Numeral}
 use Rattle.ron_spec_words.specs.AnyInteger.{opens_integer, is_float, UntypedInteger}
 use Rattle.ron_spec_words.specs.Scan.{token, Walk, here, Passes}
-use Rattle.ron_spec_words.specs.Range.{Interval, one, range, up_to, is_open, Points, opens_points, BehindNumber, NumberOrRange, opens_interval, points, behind_number, number_or_range}
+use Rattle.ron_spec_words.specs.Range.{Interval, one, range, up_to, is_open, Points, opens_points, BehindNumber, NumberOrRange, opens_interval, points}
+use Rattle.ron_spec_words.specs.Range.{behind_number, number_or_range}
 use Rattle.ron_spec_words.proofs.Words.{First, word_behind, word_choose, word_means, word_when, first_behind, first_or, first_means, first_when, first_run}
 use Rattle.ron_spec_words.proofs.Exactly.{exact_give}
 use Rattle.ron_spec_words.proofs.Classes.{apart, Solid, solid_mark}
@@ -53,7 +54,8 @@ open_parts s e = or_parts (is_at 61 s) (opens_integer s) (not-true _ e)
 
 pub word_points : (a : Option Numeral) → IsWordReader (points a) (Points a)
 word_points a = word_behind 46 _ _ (word_behind 46 _ _
-    (word_choose (is_at 61) (first_behind _ 61 _ (λ s. refl)) (first_or (first_means integer_no_equals) (first_weaker _ _ (λ s e. (open_parts s e).0) (open_first (range a false None))))
+    (word_choose (is_at 61) (first_behind _ 61 _ (λ s. refl))
+    (first_or (first_means integer_no_equals) (first_weaker _ _ (λ s e. (open_parts s e).0) (open_first (range a false None))))
     (word_behind 61 _ _ (word_means (up_to a true) word_untyped_integer))
     (word_choose opens_integer (first_means integer_opens) (first_weaker _ _ (λ s e. (open_parts s e).1) (open_first (range a false None)))
     (word_means (up_to a false) word_untyped_integer)
@@ -64,11 +66,13 @@ pub first_points : (P : Text → Type 0) (a : Option Numeral) → ((s : Text) �
 first_points P a k = record { holds = λ t next b z. rw (z.split, z.spelled.split) (k (z.spelled.rest ++ next)) }
 
 word_behind_number : (a : Numeral) → IsWordReader (behind_number a) (BehindNumber a)
-word_behind_number a = word_choose opens_points (first_points _ (Some a) (λ s. refl)) (record { holds = λ t next b z. not-true (opens_points (t ++ next)) z.0 }) (word_points (Some a)) (word_when (λ s. not (opens_points s)) (word_give (one a)))
+word_behind_number a = word_choose opens_points (first_points _ (Some a) (λ s. refl)) (record { holds = λ t next b z. not-true (opens_points (t ++ next)) z.0 })
+    (word_points (Some a)) (word_when (λ s. not (opens_points s)) (word_give (one a)))
 
 pub word_number_or_range : IsWordReader number_or_range NumberOrRange
 unfolding number_or_range
-word_number_or_range = word_choose opens_points (first_points _ None (λ s. refl)) (first_directly integer_no_points) (word_points None) (word_directly _ _ _ _ word_untyped_integer word_behind_number)
+word_number_or_range = word_choose opens_points (first_points _ None (λ s. refl)) (first_directly integer_no_points) (word_points None)
+    (word_directly _ _ _ _ word_untyped_integer word_behind_number)
 
 -- ---- what they begin with
 
@@ -105,8 +109,11 @@ equals_alone s = refl
 record Goes {A : Type 0} (b : Bool) (L : Lang A) (F : Text → Type 0) : Type 0 where
   over : (d : ℕ) (t next : Text) (a : A) → L t next a → F next → Walk b d (t ++ next) d next
 
-goes_behind : {A : Type 0} {b : Bool} {L : Lang A} {F : Text → Type 0} (c : ℕ) → is_other c ≡ true → ((s : Text) → token (c ∷ s) ≡ Some s) → Goes b L F → Goes b (Behind c L) F
-goes_behind {b = b} c h k p = record { over = λ d t next a z f. rw z.split (walk_on (walk_token b d (c ∷ []) (z.rest ++ next) h (k (z.rest ++ next))) (p.over d z.rest next a z.spelled f)) }
+goes_behind : {A : Type 0} {b : Bool} {L : Lang A} {F : Text → Type 0} (c : ℕ) → is_other c ≡ true → ((s : Text) → token (c ∷ s) ≡ Some s) → Goes b L F
+    → Goes b (Behind c L) F
+goes_behind {b = b} c h k p = record {
+  over = λ d t next a z f. rw z.split (walk_on (walk_token b d (c ∷ []) (z.rest ++ next) h (k (z.rest ++ next))) (p.over d z.rest next a z.spelled f));
+}
 
 goes_or : {A : Type 0} {b : Bool} {L M : Lang A} {F : Text → Type 0} → Goes b L F → Goes b M F → Goes b (Or L M) F
 goes_or {A} {b} {L} {M} {F} h k = record { over = both }
@@ -148,7 +155,8 @@ goes_number {b} = record {
       let p : Goes b UntypedInteger EndsRun = goes_integer passes_untyped_before in
       let k : Goes b (BehindNumber z.value) FollowsValue = goes_behind_number z.value in
       rw (z.split, append_assoc z.left z.right next)
-      (walk_on (p.over d z.left (z.right ++ next) z.value z.first (number_run z.value z.right next x z.second (value_ends next f))) (k.over d z.right next x z.second f));
+      (walk_on (p.over d z.left (z.right ++ next) z.value z.first (number_run z.value z.right next x z.second (value_ends next f)))
+      (k.over d z.right next x z.second f));
 }
 
 pub passes_number_or_range : {b : Bool} → Passes b NumberOrRange FollowsValue
@@ -163,10 +171,12 @@ no_interval : (s : Text) → opens_points s ≡ false → opens_integer s ≡ fa
 no_interval s e f = rw (e, f) refl
 
 identifier_no_points : First (λ s. opens_points s ≡ false) PlainIdentifier
-identifier_no_points = first_when (λ s. not (opens_literal s)) (first_run _ starts_name continues_name (λ c s e. rw (apart starts_name 46 c no_point_starts e) refl))
+identifier_no_points =
+    first_when (λ s. not (opens_literal s)) (first_run _ starts_name continues_name (λ c s e. rw (apart starts_name 46 c no_point_starts e) refl))
 
 identifier_no_interval : First (λ s. opens_interval s ≡ false) PlainIdentifier
-identifier_no_interval = record { holds = λ t next n z. no_interval (t ++ next) (identifier_no_points.holds t next n z) (identifier_no_integer.holds t next n z) }
+identifier_no_interval =
+    record { holds = λ t next n z. no_interval (t ++ next) (identifier_no_points.holds t next n z) (identifier_no_integer.holds t next n z) }
 
 -- where a name stands
 pub name_no_interval : First (λ s. opens_interval s ≡ false) Name

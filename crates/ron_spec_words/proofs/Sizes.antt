@@ -1,5 +1,6 @@
 -- The bytes of characters, and what a look leaves at most.
-use Rattle.std.proofs.Common.{◌≡◌, ℕ, ◌==◌, ◌≤◌, ◌<◌, ◌+◌, ◌||◌, length, length-append, arith, Bool, true, false, cond, drop, [], ◌∷◌, ◌++◌, codes, List, IsUtf8, encode_utf8, encode_utf8_all, eqb-true, refl, sym, ap, ◌∙◌}
+use Rattle.std.proofs.Common.{◌≡◌, ℕ, ◌==◌, ◌≤◌, ◌<◌, ◌+◌, ◌||◌, length, length-append, arith, Bool, true, false, cond, drop, [], ◌∷◌, ◌++◌, codes, List}
+use Rattle.std.proofs.Common.{IsUtf8, encode_utf8, encode_utf8_all, eqb-true, refl, sym, ap, ◌∙◌}
 use Rattle.std.specs.Str.{chars}
 use Rattle.std.proofs.lemmas.Str.{encodes-chars, encodes-append, length-encode, len_utf8_bounds}
 use Rattle.std.proofs.lemmas.Bool.{and_parts, or_parts}
@@ -32,7 +33,9 @@ size_end front rest text e = omega (arith, ap bytes_in e, size_append front rest
 
 pub size_run : (p : ℕ → Bool) (s : Text) → bytes_in (after_run p s) ≤ bytes_in s
 size_run p [] = omega arith
-size_run p (c ∷ s) = let k = size_run p s in let one = size_one c s in elim (p c) as (λ b. bytes_in (cond b (after_run p s) (c ∷ s)) ≤ bytes_in (c ∷ s)) [ true ↦ omega (arith, k, one) | false ↦ omega arith ]
+size_run p (c ∷ s) = let k = size_run p s in
+    let one = size_one c s in
+    elim (p c) as (λ b. bytes_in (cond b (after_run p s) (c ∷ s)) ≤ bytes_in (c ∷ s)) [ true ↦ omega (arith, k, one) | false ↦ omega arith ]
 
 pub size_skip : (s : Text) → bytes_in (skip s) ≤ bytes_in s
 size_skip s = size_end (gap_of s) (skip s) s (cut s).split
@@ -108,4 +111,10 @@ beyond_no_more s = go (opens_raw_name s) refl
     go false e = omega (arith, ap bytes_in (beyond_plain s e), run_no_more s)
     go true e =
         let k = begins-drop (codes "r#") s (and_parts (begins_with (codes "r#") s) (begins in_raw_name (drop 2 s)) e).0 in
-        omega (arith, ap bytes_in (beyond_raw s e), run_no_more (after_run in_raw_name (drop 2 s)), size_run in_raw_name (drop 2 s), size_end (codes "r#") (drop 2 s) s k)
+        omega (
+          arith,
+          ap bytes_in (beyond_raw s e),
+          run_no_more (after_run in_raw_name (drop 2 s)),
+          size_run in_raw_name (drop 2 s),
+          size_end (codes "r#") (drop 2 s) s k,
+        )

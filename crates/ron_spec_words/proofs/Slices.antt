@@ -4,7 +4,8 @@ use Rattle.std.proofs.lemmas.Bool.{or_parts}
 use Rattle.std.proofs.lemmas.Option.{same_Some}
 use Rattle.ron_spec_words.specs.Characters.{Text}
 use Rattle.ron_spec_words.specs.Lang.{Lang, Or}
-use Rattle.ron_spec_words.specs.Quoted.{Pieces, close, piece, StringPiece, itself, hashes, Raw, QuotedBytes, RawBytes, holds_backslash, holds_escape, BetweenQuotes}
+use Rattle.ron_spec_words.specs.Quoted.{Pieces, close, piece, StringPiece, itself, hashes, Raw, QuotedBytes, RawBytes, holds_backslash, holds_escape}
+use Rattle.ron_spec_words.specs.Quoted.{BetweenQuotes}
 use Rattle.ron_spec_words.specs.Literals.{SlicesStrings, SlicesByteStrings}
 use Rattle.ron_spec_words.proofs.Escapes.{AllEscaped, Escaped, is_mark, escaped_continuation}
 use Rattle.ron_spec_words.proofs.Quotes.{no_meaning, escaped_string, escaped_byte_string}
@@ -25,7 +26,8 @@ record Plain (give : ℕ → Text) (t a : Text) : Type 0 where
 plain_piece : (give : ℕ → Text) (c : ℕ) (t u a b : Text) → t ≡ c ∷ [] → give c ≡ a → Plain give u b → Plain give (t ++ u) (a ++ b)
 plain_piece give c t u a b e f h = record { content = c ∷ h.content; split = ap₂ (λ x y. x ++ y) e h.split; given = ap₂ (λ x y. x ++ y) f h.given }
 
-plain_pieces : (give : ℕ → Text) (E : Lang Text) → AllEscaped is_mark E → {t next a : Text} → Pieces (StringPiece give E) t next a → holds_backslash t ≡ false → Plain give t a
+plain_pieces : (give : ℕ → Text) (E : Lang Text) → AllEscaped is_mark E → {t next a : Text} → Pieces (StringPiece give E) t next a → holds_backslash t ≡ false
+    → Plain give t a
 plain_pieces give E h close e = record { content = []; split = refl; given = refl }
 plain_pieces give E h (piece t u next a b p q) e = let k = no_backslash t u e in go p k.0 (plain_pieces give E h q k.1)
   where
@@ -67,5 +69,8 @@ slices_byte_strings t next bytes z e = go z.spelled
         let p = plain_pieces encode_utf8 _ escaped_byte_string y.spelled k in
         (p.content, behind 98 t z.rest p.content z.split (quoted_between z.rest y.rest p.content y.split p.split), sym (flat_map-utf8 p.content) ∙ p.given)
     go (inr y) =
-        let x = y.spelled in
-        (x.value, behind 98 t z.rest x.value z.split (behind 114 z.rest y.rest x.value y.split (raw_between y.rest next x.value x.spelled)), same_Some _ _ x.meant)
+        let x = y.spelled in (
+          x.value,
+          behind 98 t z.rest x.value z.split (behind 114 z.rest y.rest x.value y.split (raw_between y.rest next x.value x.spelled)),
+          same_Some _ _ x.meant,
+        )

@@ -20,10 +20,19 @@ module _ {A : Type 0} {r : Reader A} {L : Lang A} where
   stretch_sound x s u rest e =
       let k = passed_got s (r s) u rest e in
       let z = x s k.0 rest k.1 in
-      record { stretch = z.stretch; split = z.split; spelled = record { value = k.0; spelled = z.spelled; same = sym (take-front z.stretch rest) ∙ ap (λ v. take (length v - length rest) v) (sym z.split) ∙ k.2 } }
+      record {
+        stretch = z.stretch;
+        split = z.split;
+        spelled = record {
+          value = k.0;
+          spelled = z.spelled;
+          same = sym (take-front z.stretch rest) ∙ ap (λ v. take (length v - length rest) v) (sym z.split) ∙ k.2;
+        };
+      }
 
   stretch_complete : {F : Text → Type 0} → Complete r L F → Complete (stretch r) (Stretch L) F
-  stretch_complete x t next u z f n = record { answer = ap (passed (t ++ next)) (x t next z.value z.spelled f n).answer ∙ ap (λ v. got v next) (take-front t next ∙ z.same) }
+  stretch_complete x t next u z f n =
+      record { answer = ap (passed (t ++ next)) (x t next z.value z.spelled f n).answer ∙ ap (λ v. got v next) (take-front t next ∙ z.same) }
 
 stretch_agrees : {A : Type 0} {q r : Reader A} → Agrees q r → Agrees (stretch q) (stretch r)
 stretch_agrees {q = q} {r = r} h = record { at = λ s. go s (h.at s) }
@@ -39,7 +48,8 @@ passed_deep s (failed f) e = cc
 pub first_stretch : {A : Type 0} {P : Text → Type 0} {L : Lang A} → First P L → First P (Stretch L)
 first_stretch h = record { holds = λ t next u z. h.holds t next z.value z.spelled }
 
-pub part_stretch : {room step : ℕ} {b : Bool} {A : Type 0} {P : A → Type 0} {q r : Reader A} {L : Lang A} {F : Text → Type 0} {e : ℕ} → Part room step b P q r L F e → Part room step b AnyValue (stretch q) (stretch r) (Stretch L) F e
+pub part_stretch : {room step : ℕ} {b : Bool} {A : Type 0} {P : A → Type 0} {q r : Reader A} {L : Lang A} {F : Text → Type 0} {e : ℕ}
+    → Part room step b P q r L F e → Part room step b AnyValue (stretch q) (stretch r) (Stretch L) F e
 part_stretch {r = r} h = record {
   exact = record { sound = stretch_sound h.exact.sound; complete = stretch_complete h.exact.complete };
   begins = record { no_slash = λ t next u z. h.begins.no_slash t next z.value z.spelled };

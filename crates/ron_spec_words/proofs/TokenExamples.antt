@@ -151,7 +151,8 @@ list : Walk false 0 (codes "[1,(a)],") 0 (codes ",")
 unfolding token unicode_ident
 list =
     on 0 91 [] (codes "1,(a)],") _ _ refl refl (on 1 49 [] (codes ",(a)],") _ _ refl refl (on 1 44 [] (codes "(a)],") _ _ refl refl
-    (on 1 40 [] (codes "a)],") _ _ refl refl (on 2 97 [] (codes ")],") _ _ refl refl (on 2 41 [] (codes "],") _ _ refl refl (on 1 93 [] (codes ",") _ _ refl refl (here 0 (codes ","))))))))
+    (on 1 40 [] (codes "a)],") _ _ refl refl
+    (on 2 97 [] (codes ")],") _ _ refl refl (on 2 41 [] (codes "],") _ _ refl refl (on 1 93 [] (codes ",") _ _ refl refl (here 0 (codes ","))))))))
 
 -- one bracket more is open behind it
 to_an_opening : Walk false 0 (codes "Some(x)") 1 (codes "x)")
@@ -161,7 +162,8 @@ to_an_opening = on 0 83 (codes "ome") (codes "(x)") _ _ refl refl (on 0 40 [] (c
 -- bare content, where commas may stand
 bare : Walk true 0 (codes "1,2,)") 0 (codes ")")
 unfolding token unicode_ident
-bare = on 0 49 [] (codes ",2,)") _ _ refl refl (on 0 44 [] (codes "2,)") _ _ refl refl (on 0 50 [] (codes ",)") _ _ refl refl (on 0 44 [] (codes ")") _ _ refl refl (here 0 (codes ")")))))
+bare = on 0 49 [] (codes ",2,)") _ _ refl refl
+    (on 0 44 [] (codes "2,)") _ _ refl refl (on 0 50 [] (codes ",)") _ _ refl refl (on 0 44 [] (codes ")") _ _ refl refl (here 0 (codes ")")))))
 
 -- where they may not, one is the end
 comma_ends : ends false 0 44 ≡ true

@@ -12,7 +12,8 @@ use Rattle.ron_spec_words.specs.Lang.{BeginsAndGoesOn, Behind}
 use Rattle.ron_spec_words.specs.Exact.{FollowsValue}
 use Rattle.ron_spec_words.specs.Directly.{FixedWord}
 use Rattle.ron_spec_words.specs.Name.{opens_literal, PlainName, Name, PlainIdentifier, UntypedName}
-use Rattle.ron_spec_words.specs.Number.{Suffix, i8, i16, i32, i64, i128, u8, u16, u32, u64, u128, suffix_word, OptSuffix, in_number, InBase, Magnitude, Numeral, Unsigned}
+use Rattle.ron_spec_words.specs.Number.{Suffix, i8, i16, i32, i64, i128, u8, u16, u32, u64, u128, suffix_word, OptSuffix, in_number, InBase, Magnitude, Numeral}
+use Rattle.ron_spec_words.specs.Number.{Unsigned}
 use Rattle.ron_spec_words.specs.Scan.{is_hash, opens_raw, opens_string, opens_byte_string, opens_raw_name, starts_run, token}
 use Rattle.ron_spec_words.proofs.Words.{First}
 use Rattle.ron_spec_words.proofs.Classes.{apart, Clear, solid_class}
@@ -28,18 +29,21 @@ no_raw [] e f = refl
 no_raw (c ∷ []) e f = and-false (c == 114)
 no_raw (c ∷ d ∷ s) e f = go (c == 114) e f
   where
-    go : (b : Bool) → (b && begins_with (34 ∷ []) (d ∷ s)) ≡ false → (b && begins_with (35 ∷ []) (d ∷ s)) ≡ false → (b && is_at 34 (after_run is_hash (d ∷ s))) ≡ false
+    go : (b : Bool) → (b && begins_with (34 ∷ []) (d ∷ s)) ≡ false → (b && begins_with (35 ∷ []) (d ∷ s)) ≡ false
+        → (b && is_at 34 (after_run is_hash (d ∷ s))) ≡ false
     go false h k = refl
     go true h k = let no_hash : (d == 35) ≡ false = begins_one 35 (d ∷ s) k in rw no_hash (begins_one 34 (d ∷ s) h)
 
 no_string : (s : Text) → is_at 34 s ≡ false → begins_with (codes "r\"") s ≡ false → begins_with (codes "r#") s ≡ false → opens_string s ≡ false
 no_string s q e f = rw (q, no_raw s e f) refl
 
-no_byte_string : (s : Text) → begins_with (codes "b\"") s ≡ false → begins_with (codes "br\"") s ≡ false → begins_with (codes "br#") s ≡ false → opens_byte_string s ≡ false
+no_byte_string : (s : Text) → begins_with (codes "b\"") s ≡ false → begins_with (codes "br\"") s ≡ false → begins_with (codes "br#") s ≡ false
+    → opens_byte_string s ≡ false
 no_byte_string [] e f g = refl
 no_byte_string (c ∷ s) e f g = go (c == 98) e f g
   where
-    go : (b : Bool) → (b && begins_with (34 ∷ []) s) ≡ false → (b && begins_with (codes "r\"") s) ≡ false → (b && begins_with (codes "r#") s) ≡ false → (b && opens_string s) ≡ false
+    go : (b : Bool) → (b && begins_with (34 ∷ []) s) ≡ false → (b && begins_with (codes "r\"") s) ≡ false → (b && begins_with (codes "r#") s) ≡ false
+        → (b && opens_string s) ≡ false
     go false h k l = refl
     go true h k l = no_string s (begins_one 34 s h) k l
 
@@ -155,7 +159,14 @@ based_digits d base t next n h z = record {
 
 decimal_digits : (t next : Text) (n : ℕ) → InBase 10 t next n → Digits t
 decimal_digits [] next n z = absurd z.spelled.every
-decimal_digits (c ∷ t) next n z = record { first = c; more = t; split = refl; digit = z.spelled.every.0; no_b = digits_no_b c t next z.value n z.spelled z.meant; every = every_number t z.spelled.every.1 }
+decimal_digits (c ∷ t) next n z = record {
+  first = c;
+  more = t;
+  split = refl;
+  digit = z.spelled.every.0;
+  no_b = digits_no_b c t next z.value n z.spelled z.meant;
+  every = every_number t z.spelled.every.1;
+}
 
 magnitude_digits : (t next : Text) (n : ℕ) → Magnitude t next n → Digits t
 unfolding unicode_ident
@@ -185,12 +196,25 @@ unsigned_digits : (minus : Bool) (t next : Text) (n : Numeral) → Unsigned minu
 unsigned_digits minus t next n z =
     let k = magnitude_digits z.left (z.right ++ next) z.value z.first in
     let l = every_suffix z.right next z.second.value z.second.spelled in
-    record { first = k.first; more = k.more ++ z.right; split = z.split ∙ ap (λ u. u ++ z.right) k.split; digit = k.digit; no_b = k.no_b; every = every_append continues_name k.more z.right k.every l }
+    record {
+      first = k.first;
+      more = k.more ++ z.right;
+      split = z.split ∙ ap (λ u. u ++ z.right) k.split;
+      digit = k.digit;
+      no_b = k.no_b;
+      every = every_append continues_name k.more z.right k.every l;
+    }
 
 -- what may follow a value does not go on with a run
 continues_clear : Clear continues_name
 unfolding unicode_ident
-continues_clear = record { stop = (refl, refl, refl, refl, refl); range = (refl, (refl, (refl, (refl, (refl, tt))))); blank = (refl, refl, refl, refl, refl, refl); slash = refl; hash = refl }
+continues_clear = record {
+  stop = (refl, refl, refl, refl, refl);
+  range = (refl, (refl, (refl, (refl, (refl, tt)))));
+  blank = (refl, refl, refl, refl, refl, refl);
+  slash = refl;
+  hash = refl;
+}
 
 pub value_ends : (next : Text) → FollowsValue next → begins continues_name next ≡ false
 value_ends [] f = refl

@@ -1,5 +1,6 @@
 -- What a word or a gap spells is one token: for the walks of the lookahead.
-use Rattle.std.proofs.Common.{◌≡◌, ℕ, zero, suc, ◌==◌, ◌<◌, nat_lt, lt-ltb, length, length-append, arith, true, false, [], ◌∷◌, ◌++◌, codes, Some, ◌⊎◌, inl, inr, refl, sym, ap, ◌∙◌, append_assoc}
+use Rattle.std.proofs.Common.{◌≡◌, ℕ, zero, suc, ◌==◌, ◌<◌, nat_lt, lt-ltb, length, length-append, arith, true, false, [], ◌∷◌, ◌++◌, codes, Some, ◌⊎◌, inl}
+use Rattle.std.proofs.Common.{inr, refl, sym, ap, ◌∙◌, append_assoc}
 use Rattle.unicode_ident.proofs.Computing.{unicode_ident}
 use Rattle.ron_spec_words.specs.Characters.{Text, continues_name, in_raw_name}
 use Rattle.ron_spec_words.specs.Runs.{begins, is_at, Every, begins_with, after_run}
@@ -46,7 +47,8 @@ raw_name_token : (s : Text) → NoLiteral s → begins_with (codes "b'") s ≡ f
 unfolding token
 raw_name_token s n e f = rw (n.no_gap, n.no_string, n.no_byte_string, n.no_char, e, f) refl
 
-run_token : (s : Text) → NoLiteral s → begins_with (codes "b'") s ≡ false → opens_raw_name s ≡ false → begins starts_run s ≡ true → token s ≡ left_by (run starts_run continues_name s)
+run_token : (s : Text) → NoLiteral s → begins_with (codes "b'") s ≡ false → opens_raw_name s ≡ false → begins starts_run s ≡ true
+    → token s ≡ left_by (run starts_run continues_name s)
 unfolding token
 run_token s n e f g = rw (n.no_gap, n.no_string, n.no_byte_string, n.no_char, e, f, g) refl
 
@@ -81,7 +83,8 @@ pub token_gap : (c : ℕ) (g next : Text) → LongGap (c ∷ g) next → token (
 token_gap c g next h =
     let past : skip ((c ∷ g) ++ next) ≡ next = skip-append (c ∷ g) next h in
     let lt : length next < suc (length (g ++ next)) = omega (arith, length-append g next) in
-    let less : nat_lt (length (skip ((c ∷ g) ++ next))) (length ((c ∷ g) ++ next)) ≡ true = ap (λ u. nat_lt (length u) (length ((c ∷ g) ++ next))) past ∙ lt-ltb (length next) (suc (length (g ++ next))) lt in
+    let less : nat_lt (length (skip ((c ∷ g) ++ next))) (length ((c ∷ g) ++ next)) ≡ true =
+    ap (λ u. nat_lt (length u) (length ((c ∷ g) ++ next))) past ∙ lt-ltb (length next) (suc (length (g ++ next))) lt in
     gap_token ((c ∷ g) ++ next) (gap_starts c g next h.is_gap) less ∙ ap Some past
 
 -- ---- strings and byte strings
@@ -93,7 +96,8 @@ after_hashes (suc n) s = after_hashes n s
 raw_opens : (t next a : Text) → Raw t next a → is_at 34 (after_run is_hash (t ++ next)) ≡ true
 raw_opens t next a z =
     let body : Text = a ++ 34 ∷ hashes z.count in
-    ap (λ u. is_at 34 (after_run is_hash (u ++ next))) z.same ∙ ap (λ u. is_at 34 (after_run is_hash u)) (append_assoc (hashes z.count) (34 ∷ body) next) ∙ ap (is_at 34) (after_hashes z.count (body ++ next))
+    ap (λ u. is_at 34 (after_run is_hash (u ++ next))) z.same ∙ ap (λ u. is_at 34 (after_run is_hash u)) (append_assoc (hashes z.count) (34 ∷ body) next)
+    ∙ ap (is_at 34) (after_hashes z.count (body ++ next))
 
 pub string_opens : First (λ s. opens_string s ≡ true) String
 string_opens = first_or (first_behind _ 34 _ (λ s. refl)) (record { holds = λ t next a z. rw z.split (raw_opens z.rest next a z.spelled) })
@@ -112,14 +116,16 @@ token_string t next a z =
 
 pub token_byte_string : (t next a : Text) → ByteString t next a → token (t ++ next) ≡ Some next
 token_byte_string t next a z =
-    byte_string_token (t ++ next) ((first_byte_string (λ s. begins starts_gap s ≡ false) (λ s. refl) (λ s. refl)).holds t next a z) ((first_byte_string (λ s. opens_string s ≡ false) (λ s. refl) (λ s. refl)).holds t next a z)
+    byte_string_token (t ++ next) ((first_byte_string (λ s. begins starts_gap s ≡ false) (λ s. refl) (λ s. refl)).holds t next a z)
+    ((first_byte_string (λ s. opens_string s ≡ false) (λ s. refl) (λ s. refl)).holds t next a z)
     (byte_string_opens.holds t next a z) ∙ left_at byte_string t next a (word_byte_string.complete t next a z)
 
 -- ---- char and byte literals
 
 pub token_char : (t next : Text) (a : ℕ) → Char t next a → token (t ++ next) ≡ Some next
 token_char t next a z =
-    char_token (t ++ next) ((first_char (λ s. begins starts_gap s ≡ false) (λ s. refl)).holds t next a z) ((first_char (λ s. opens_string s ≡ false) (λ s. refl)).holds t next a z)
+    char_token (t ++ next) ((first_char (λ s. begins starts_gap s ≡ false) (λ s. refl)).holds t next a z)
+    ((first_char (λ s. opens_string s ≡ false) (λ s. refl)).holds t next a z)
     ((first_char (λ s. opens_byte_string s ≡ false) (λ s. refl)).holds t next a z) ((first_char (λ s. is_at 39 s ≡ true) (λ s. refl)).holds t next a z)
     ∙ left_at char t next a (word_char.complete t next a z)
 
@@ -146,7 +152,8 @@ raw_shape t next n z = go z.spelled.rest z.spelled.spelled (z.split ∙ ap (λ u
 
 raw_no_literal : (c : ℕ) (s : Text) → in_raw_name c ≡ true → NoLiteral (114 ∷ 35 ∷ c ∷ s)
 unfolding unicode_ident
-raw_no_literal c s h = record { no_gap = refl; no_string = rw (apart in_raw_name 35 c refl h, apart in_raw_name 34 c refl h) refl; no_byte_string = refl; no_char = refl }
+raw_no_literal c s h =
+    record { no_gap = refl; no_string = rw (apart in_raw_name 35 c refl h, apart in_raw_name 34 c refl h) refl; no_byte_string = refl; no_char = refl }
 
 pub raw_name_no_string : First (λ s. (opens_string s ≡ false) × (opens_byte_string s ≡ false)) RawName
 raw_name_no_string = record {
@@ -165,14 +172,21 @@ raw_three c s h = raw_name_token (114 ∷ 35 ∷ c ∷ s) (raw_no_literal c s h)
 pub token_raw_name : (t next n : Text) → RawName t next n → token (t ++ next) ≡ Some next
 token_raw_name t next n z =
     let k = raw_shape t next n z in
-    ap (λ u. token (u ++ next)) k.split ∙ raw_three k.first (k.more ++ next) k.in_name ∙ ap (λ u. left_by (raw_name (u ++ next))) (sym k.split) ∙ left_at raw_name t next n (word_raw_name.complete t next n z)
+    ap (λ u. token (u ++ next)) k.split ∙ raw_three k.first (k.more ++ next) k.in_name ∙ ap (λ u. left_by (raw_name (u ++ next))) (sym k.split)
+    ∙ left_at raw_name t next n (word_raw_name.complete t next n z)
 
 -- ---- runs
 
 -- what begins a run is no blank, no slash and no quote
 pub starts_clear : Clear starts_run
 unfolding unicode_ident
-starts_clear = record { stop = (refl, refl, refl, refl, refl); range = (refl, (refl, (refl, (refl, (refl, tt))))); blank = (refl, refl, refl, refl, refl, refl); slash = refl; hash = refl }
+starts_clear = record {
+  stop = (refl, refl, refl, refl, refl);
+  range = (refl, (refl, (refl, (refl, (refl, tt)))));
+  blank = (refl, refl, refl, refl, refl, refl);
+  slash = refl;
+  hash = refl;
+}
 
 pub starts_quotes : (starts_run 34 ≡ false) × (starts_run 39 ≡ false)
 unfolding unicode_ident
@@ -180,11 +194,20 @@ starts_quotes = (refl, refl)
 
 -- a run where neither a literal nor a raw identifier begins
 pub token_run : (c : ℕ) (t next : Text) → starts_run c ≡ true → Every continues_name t → begins continues_name next ≡ false
-    → opens_string (c ∷ (t ++ next)) ≡ false → opens_byte_string (c ∷ (t ++ next)) ≡ false → begins_with (codes "b'") (c ∷ (t ++ next)) ≡ false → opens_raw_name (c ∷ (t ++ next)) ≡ false → token (c ∷ (t ++ next)) ≡ Some next
+    → opens_string (c ∷ (t ++ next)) ≡ false → opens_byte_string (c ∷ (t ++ next)) ≡ false → begins_with (codes "b'") (c ∷ (t ++ next)) ≡ false
+    → opens_raw_name (c ∷ (t ++ next)) ≡ false → token (c ∷ (t ++ next)) ≡ Some next
 token_run c t next h every ends e f g k =
-    run_token (c ∷ (t ++ next)) (record { no_gap = rw (no_blank starts_run starts_clear c h, apart starts_run 47 c starts_clear.slash h) refl; no_string = e; no_byte_string = f; no_char = apart starts_run 39 c starts_quotes.1 h }) g k h
-    ∙ left_at (run starts_run continues_name) (c ∷ t) next (c ∷ t) ((word_run starts_run continues_name).complete (c ∷ t) next (c ∷ t) (record { same = refl; every = (h, every); longest = ends }))
+    run_token (c ∷ (t ++ next)) (record {
+      no_gap = rw (no_blank starts_run starts_clear c h, apart starts_run 47 c starts_clear.slash h) refl;
+      no_string = e;
+      no_byte_string = f;
+      no_char = apart starts_run 39 c starts_quotes.1 h;
+    }) g k h
+    ∙ left_at (run starts_run continues_name) (c ∷ t) next (c ∷ t)
+    ((word_run starts_run continues_name).complete (c ∷ t) next (c ∷ t) (record { same = refl; every = (h, every); longest = ends }))
 
 -- where it begins with neither `b` nor `r`
-pub token_plain_run : (c : ℕ) (t next : Text) → starts_run c ≡ true → (c == 98) ≡ false → (c == 114) ≡ false → Every continues_name t → begins continues_name next ≡ false → token (c ∷ (t ++ next)) ≡ Some next
-token_plain_run c t next h b r every ends = token_run c t next h every ends (rw (apart starts_run 34 c starts_quotes.0 h, r) refl) (rw b refl) (rw b refl) (rw r refl)
+pub token_plain_run : (c : ℕ) (t next : Text) → starts_run c ≡ true → (c == 98) ≡ false → (c == 114) ≡ false → Every continues_name t
+    → begins continues_name next ≡ false → token (c ∷ (t ++ next)) ≡ Some next
+token_plain_run c t next h b r every ends =
+    token_run c t next h every ends (rw (apart starts_run 34 c starts_quotes.0 h, r) refl) (rw b refl) (rw b refl) (rw r refl)

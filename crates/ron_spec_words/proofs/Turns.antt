@@ -1,10 +1,12 @@
 -- Items and bracketed lists a turn at a time, without the bound on its length: for the loops of code over items.
-use Rattle.std.proofs.Common.{◌≡◌, ℕ, zero, suc, ◌≤◌, ◌<◌, ◌==◌, nat_le, Bool, true, false, cond, if◌then◌else◌, List, [], ◌∷◌, ◌++◌, length, Option, Some, None, refl, ap, ◌∙◌, arith, eq-eqb}
+use Rattle.std.proofs.Common.{◌≡◌, ℕ, zero, suc, ◌≤◌, ◌<◌, ◌==◌, nat_le, Bool, true, false, cond, if◌then◌else◌, List, [], ◌∷◌, ◌++◌, length, Option, Some}
+use Rattle.std.proofs.Common.{None, refl, ap, ◌∙◌, arith, eq-eqb}
 use Rattle.ron_spec_words.specs.Characters.{Text, is_blank, comma, slash}
 use Rattle.ron_spec_words.specs.Runs.{is_at}
 use Rattle.ron_spec_words.specs.Gap.{gap_of, skip}
 use Rattle.ron_spec_words.specs.Lang.{done}
-use Rattle.ron_spec_words.specs.Reader.{Fault, deep, bad, Got, got, failed, Reader, give, mark, after_gap, and_then, in_sequence, given, meant, means, pick, tail, tail_all, items_from, items, group, needs}
+use Rattle.ron_spec_words.specs.Reader.{Fault, deep, bad, Got, got, failed, Reader, give, mark, after_gap, and_then, in_sequence, given, meant, means, pick}
+use Rattle.ron_spec_words.specs.Reader.{tail, tail_all, items_from, items, group, needs}
 use Rattle.ron_spec_words.specs.Turns.{all_items, rest_of_group}
 use Rattle.ron_spec_words.proofs.Gaps.{length-skip, skip-other, skip-skip}
 
@@ -33,8 +35,10 @@ module _ {A : Type 0} (r : List A → Text → Reader A) (close : ℕ) (h : Shri
   abbrev item_and : (A → Reader (List A)) → List A → Text → Reader (List A)
   item_and f seen before = pick (is_at close) (give []) (in_sequence (r seen before) (λ a _. means (f a) (λ xs. Some (a ∷ xs))))
 
-  same_items : (f g : A → Reader (List A)) (seen : List A) (before s : Text) → ((a : A) (u : Text) → length u ≤ length s → f a u ≡ g a u) → item_and f seen before s ≡ item_and g seen before s
-  same_items f g seen before s k = elim (is_at close s) as (λ b. cond b (got [] s) (and_then (r seen before s) (λ a _. means (f a) (λ xs. Some (a ∷ xs)))) ≡ cond b (got [] s) (and_then (r seen before s) (λ a _. means (g a) (λ xs. Some (a ∷ xs))))) [ true ↦ refl | false ↦ go (r seen before s) refl ]
+  same_items : (f g : A → Reader (List A)) (seen : List A) (before s : Text) → ((a : A) (u : Text) → length u ≤ length s → f a u ≡ g a u)
+      → item_and f seen before s ≡ item_and g seen before s
+  same_items f g seen before s k = elim (is_at close s) as (λ b. cond b (got [] s) (and_then (r seen before s) (λ a _. means (f a) (λ xs. Some (a ∷ xs))))
+      ≡ cond b (got [] s) (and_then (r seen before s) (λ a _. means (g a) (λ xs. Some (a ∷ xs))))) [ true ↦ refl | false ↦ go (r seen before s) refl ]
     where
       go : (o : Got A) → r seen before s ≡ o → and_then o (λ a _. means (f a) (λ xs. Some (a ∷ xs))) ≡ and_then o (λ a _. means (g a) (λ xs. Some (a ∷ xs)))
       go (got a rest) e = after_same (λ _. means (f a) (λ xs. Some (a ∷ xs))) (λ _. means (g a) (λ xs. Some (a ∷ xs))) rest
@@ -47,11 +51,18 @@ module _ {A : Type 0} (r : List A → Text → Reader A) (close : ℕ) (h : Shri
   same_fuel zero n seen s l k = absurd (omega (arith, l))
   same_fuel (suc m) zero seen s l k = absurd (omega (arith, k))
   same_fuel (suc m) (suc n) seen [] l k = refl
-  same_fuel (suc m) (suc n) seen (c ∷ s) l k = go (same_items (λ a. tail r close m (a ∷ seen)) (λ a. tail r close n (a ∷ seen)) seen (gap_of s) (skip s) (λ a u z. same_fuel m n (a ∷ seen) u (omega (arith, l, z, length-skip s)) (omega (arith, k, z, length-skip s))))
+  same_fuel (suc m) (suc n) seen (c ∷ s) l k = go (same_items (λ a. tail r close m (a ∷ seen)) (λ a. tail r close n (a ∷ seen)) seen (gap_of s) (skip s)
+      (λ a u z. same_fuel m n (a ∷ seen) u (omega (arith, l, z, length-skip s)) (omega (arith, k, z, length-skip s))))
     where
       go : item_and (λ a. tail r close m (a ∷ seen)) seen (gap_of s) (skip s) ≡ item_and (λ a. tail r close n (a ∷ seen)) seen (gap_of s) (skip s)
-          → pick (is_at 44) (in_sequence (mark 44 done) (λ _ gap. item_and (λ a. tail r close m (a ∷ seen)) seen gap)) (give []) (c ∷ s) ≡ pick (is_at 44) (in_sequence (mark 44 done) (λ _ gap. item_and (λ a. tail r close n (a ∷ seen)) seen gap)) (give []) (c ∷ s)
-      go e = elim (c == 44) as (λ b. cond b (and_then (cond b (got done s) (failed bad)) (λ _ gap. item_and (λ a. tail r close m (a ∷ seen)) seen gap)) (got [] (c ∷ s)) ≡ cond b (and_then (cond b (got done s) (failed bad)) (λ _ gap. item_and (λ a. tail r close n (a ∷ seen)) seen gap)) (got [] (c ∷ s))) [ true ↦ after_same (λ gap. item_and (λ a. tail r close m (a ∷ seen)) seen gap) (λ gap. item_and (λ a. tail r close n (a ∷ seen)) seen gap) s e | false ↦ refl ]
+          → pick (is_at 44) (in_sequence (mark 44 done) (λ _ gap. item_and (λ a. tail r close m (a ∷ seen)) seen gap)) (give []) (c ∷ s)
+          ≡ pick (is_at 44) (in_sequence (mark 44 done) (λ _ gap. item_and (λ a. tail r close n (a ∷ seen)) seen gap)) (give []) (c ∷ s)
+      go e = elim (c == 44)
+          as (λ b. cond b (and_then (cond b (got done s) (failed bad)) (λ _ gap. item_and (λ a. tail r close m (a ∷ seen)) seen gap)) (got [] (c ∷ s))
+          ≡ cond b (and_then (cond b (got done s) (failed bad)) (λ _ gap. item_and (λ a. tail r close n (a ∷ seen)) seen gap)) (got [] (c ∷ s))) [
+            | true ↦ after_same (λ gap. item_and (λ a. tail r close m (a ∷ seen)) seen gap) (λ gap. item_and (λ a. tail r close n (a ∷ seen)) seen gap) s e
+            | false ↦ refl
+          ]
 
   -- behind a comma the items go on
   pub tail_comma : (seen : List A) (u : Text) → tail_all r close seen (44 ∷ u) ≡ after_gap (items_from r close seen) u
@@ -73,13 +84,15 @@ module _ {A : Type 0} (r : List A → Text → Reader A) (close : ℕ) (h : Shri
       items_failed : (f : Fault) → r seen before s ≡ failed f → items_from r close seen before s ≡ failed f
       items_failed f k = rw (e, k) refl
 
-      items_last : (a : A) (rest : Text) → r seen before s ≡ got a rest → is_at 47 (skip rest) ≡ false → is_at 44 (skip rest) ≡ false → items_from r close seen before s ≡ got (a ∷ []) (skip rest)
+      items_last : (a : A) (rest : Text) → r seen before s ≡ got a rest → is_at 47 (skip rest) ≡ false → is_at 44 (skip rest) ≡ false
+          → items_from r close seen before s ≡ got (a ∷ []) (skip rest)
       items_last a rest k n o = rw (e, k, n, tail_other (a ∷ seen) (skip rest) o) refl
 
       items_slash : (a : A) (rest : Text) → r seen before s ≡ got a rest → is_at 47 (skip rest) ≡ true → items_from r close seen before s ≡ failed bad
       items_slash a rest k n = rw (e, k, n) refl
 
-      items_more : (a : A) (rest u : Text) → r seen before s ≡ got a rest → skip rest ≡ 44 ∷ u → items_from r close seen before s ≡ meant (after_gap (items_from r close (a ∷ seen)) u) (λ xs. Some (a ∷ xs))
+      items_more : (a : A) (rest u : Text) → r seen before s ≡ got a rest → skip rest ≡ 44 ∷ u
+          → items_from r close seen before s ≡ meant (after_gap (items_from r close (a ∷ seen)) u) (λ xs. Some (a ∷ xs))
       items_more a rest u k o = rw (e, k, o, tail_comma (a ∷ seen) u) refl
 
 -- ---- a bracketed list from a place within it
@@ -89,11 +102,14 @@ no_mark c a [] e = refl
 no_mark c a (d ∷ s) e = rw e refl
 
 -- behind a gap a mark that is not there, whatever would stand behind it
-pub behind_no_mark : {A B : Type 0} (c : ℕ) (a : A) (s : Text) (q : A → Text → Reader B) → is_at c (skip s) ≡ false → after_gap (λ _. in_sequence (mark c a) q) s ≡ failed bad
-behind_no_mark c a s q e = elim (is_at 47 (skip s)) as (λ b. (if b then failed bad else and_then (mark c a (skip s)) q) ≡ failed bad) [ true ↦ refl | false ↦ ap (λ o. and_then o q) (no_mark c a (skip s) e) ]
+pub behind_no_mark : {A B : Type 0} (c : ℕ) (a : A) (s : Text) (q : A → Text → Reader B) → is_at c (skip s) ≡ false
+    → after_gap (λ _. in_sequence (mark c a) q) s ≡ failed bad
+behind_no_mark c a s q e = elim (is_at 47 (skip s))
+    as (λ b. (if b then failed bad else and_then (mark c a (skip s)) q) ≡ failed bad) [ true ↦ refl | false ↦ ap (λ o. and_then o q) (no_mark c a (skip s) e) ]
 
 -- what is meant behind an item is meant of all items
-meant_twice : {A B C : Type 0} (o : Got A) (f : A → Option B) (g : A → B) (h : B → Option C) → ((a : A) → f a ≡ Some (g a)) → meant (meant o f) h ≡ meant o (λ a. h (g a))
+meant_twice : {A B C : Type 0} (o : Got A) (f : A → Option B) (g : A → B) (h : B → Option C) → ((a : A) → f a ≡ Some (g a))
+    → meant (meant o f) h ≡ meant o (λ a. h (g a))
 meant_twice (got a rest) f g h e = rw e refl
 meant_twice (failed x) f g h e = refl
 
@@ -108,18 +124,23 @@ close_got close (Some b) u c = rw (skip-other close u c.0 c.2, c.2, eq-eqb close
 
 close_other : {B : Type 0} (close : ℕ) (o : Option B) (s : Text) → skip s ≡ s → is_at close s ≡ false → and_then (given o s) (λ b _. mark close b) ≡ failed bad
 close_other close None s n e = refl
-close_other close (Some b) s n e = rw n (elim (is_at 47 s) as (λ x. cond x (failed bad) (mark close b s) ≡ failed bad) [ true ↦ refl | false ↦ no_mark close b s e ])
+close_other close (Some b) s n e =
+    rw n (elim (is_at 47 s) as (λ x. cond x (failed bad) (mark close b s) ≡ failed bad) [ true ↦ refl | false ↦ no_mark close b s e ])
 
 -- behind the opening character
 pub group_opened : {A B : Type 0} (r : List A → Text → Reader A) (close : ℕ) (f : List A → Option B) (open_mark k room : ℕ) (u : Text)
-    → group open_mark close (λ gap. needs k room (means (items r close gap) f)) (open_mark ∷ u) ≡ after_gap (λ gap. needs k room (rest_of_group r close f [] gap)) u
+    → group open_mark close (λ gap. needs k room (means (items r close gap) f)) (open_mark ∷ u)
+    ≡ after_gap (λ gap. needs k room (rest_of_group r close f [] gap)) u
 unfolding rest_of_group
 group_opened r close f open_mark k room u = rw (eq-eqb open_mark open_mark refl)
-    (after_same (λ gap. in_sequence (needs k room (means (items r close gap) f)) (λ d _. mark close d)) (λ gap. needs k room (rest_of_group r close f [] gap)) u (elim (nat_le k room) as
-    (λ b. and_then (cond b (meant (items r close (gap_of u) (skip u)) f) (failed deep)) (λ d _. mark close d) ≡ cond b (rest_of_group r close f [] (gap_of u) (skip u)) (failed deep)) [ true ↦ refl | false ↦ refl ]))
+    (after_same (λ gap. in_sequence (needs k room (means (items r close gap) f)) (λ d _. mark close d)) (λ gap. needs k room (rest_of_group r close f [] gap))
+    u (elim (nat_le k room) as
+    (λ b. and_then (cond b (meant (items r close (gap_of u) (skip u)) f) (failed deep)) (λ d _. mark close d)
+    ≡ cond b (rest_of_group r close f [] (gap_of u) (skip u)) (failed deep)) [ true ↦ refl | false ↦ refl ]))
 
 -- a turn: the list is over, or an item is no item, or the last, or not closed, or another follows
-module _ {A B : Type 0} (r : List A → Text → Reader A) (close : ℕ) (f : List A → Option B) (c : Closes close) (h : Shrinks r) (seen : List A) (before s : Text) where
+module _ {A B : Type 0} (r : List A → Text → Reader A) (close : ℕ) (f : List A → Option B) (c : Closes close) (h : Shrinks r) (seen : List A)
+    (before s : Text) where
   pub group_over : (u : Text) → s ≡ close ∷ u → rest_of_group r close f seen before s ≡ given (f (all_items seen [])) u
   unfolding rest_of_group
   group_over u e = rw (items_over r close h seen before s (rw e (eq-eqb close close refl)), e) (close_got close (f (all_items seen [])) u c)
@@ -144,11 +165,14 @@ module _ {A B : Type 0} (r : List A → Text → Reader A) (close : ℕ) (f : Li
         where
           go : (b : Bool) → is_at 47 (skip rest) ≡ b → rest_of_group r close f seen before s ≡ failed bad
           go true m = group_slash m
-          go false m = rw (items_last r close h seen before s open_still a rest e m n) (close_other close (f (all_items (a ∷ seen) [])) (skip rest) (skip-skip rest) k)
+          go false m =
+              rw (items_last r close h seen before s open_still a rest e m n) (close_other close (f (all_items (a ∷ seen) [])) (skip rest) (skip-skip rest) k)
 
       pub group_more : (u : Text) → skip rest ≡ comma ∷ u → rest_of_group r close f seen before s ≡ after_gap (rest_of_group r close f (a ∷ seen)) u
       unfolding rest_of_group
       group_more u k = rw (items_more r close h seen before s open_still a rest u e k)
-          (ap (λ o. and_then o (λ b _. mark close b)) (meant_twice (after_gap (items_from r close (a ∷ seen)) u) (λ xs. Some (a ∷ xs)) (λ xs. a ∷ xs) (λ xs. f (all_items seen xs)) (λ xs. refl))
+          (ap (λ o. and_then o (λ b _. mark close b))
+          (meant_twice (after_gap (items_from r close (a ∷ seen)) u) (λ xs. Some (a ∷ xs)) (λ xs. a ∷ xs) (λ xs. f (all_items seen xs)) (λ xs. refl))
           ∙ elim (is_at 47 (skip u)) as
-          (λ b. and_then (meant (cond b (failed bad) (items_from r close (a ∷ seen) (gap_of u) (skip u))) (λ xs. f (all_items seen (a ∷ xs)))) (λ d _. mark close d) ≡ cond b (failed bad) (rest_of_group r close f (a ∷ seen) (gap_of u) (skip u))) [ true ↦ refl | false ↦ refl ])
+          (λ b. and_then (meant (cond b (failed bad) (items_from r close (a ∷ seen) (gap_of u) (skip u))) (λ xs. f (all_items seen (a ∷ xs))))
+          (λ d _. mark close d) ≡ cond b (failed bad) (rest_of_group r close f (a ∷ seen) (gap_of u) (skip u))) [ true ↦ refl | false ↦ refl ])

@@ -1,6 +1,7 @@
 -- What tells words apart where no type is given: how integers begin, where no name begins, and where no word of a value stands.
 -- For values without a schema.
-use Rattle.std.proofs.Common.{◌≡◌, ℕ, zero, suc, ◌==◌, ◌<◌, Bool, true, false, not, cond, drop, length, [], ◌∷◌, ◌++◌, append_assoc, codes, Some, None, refl, sym, ap, ◌∙◌, le-leb, ltb-true}
+use Rattle.std.proofs.Common.{◌≡◌, ℕ, zero, suc, ◌==◌, ◌<◌, Bool, true, false, not, cond, drop, length, [], ◌∷◌, ◌++◌, append_assoc, codes, Some, None, refl}
+use Rattle.std.proofs.Common.{sym, ap, ◌∙◌, le-leb, ltb-true}
 use Rattle.std.proofs.lemmas.Bool.{or_parts, not-true}
 use Rattle.std.proofs.lemmas.Str.Parse.{digit_from_value}
 use Rattle.std.specs.Char.{is_ascii_digit, is_ascii_hexdigit, digit_value}
@@ -37,13 +38,17 @@ first_decimal P k = record { holds = λ t next n z. at t next z.1.value n z.1.sp
     at (c ∷ t) next run n z e = k c (t ++ next) (decimal c (ltb-true (digit_value c) 10 (digit_below c t next run n z e)))
 
 -- an integer begins with a sign or a decimal digit, a byte literal with `b'`
-pub first_any_integer : (P : Text → Type 0) → ((s : Text) → P (98 ∷ 39 ∷ s)) → ((s : Text) → P (43 ∷ s)) → ((s : Text) → P (45 ∷ s)) → ((c : ℕ) (s : Text) → is_ascii_digit c ≡ true → P (c ∷ s)) → First P AnyInteger
-first_any_integer P byte plus minus digit = first_or (first_means (first_byte P byte)) (first_or (first_behind P 43 _ plus) (first_or (first_behind P 45 _ minus) (first_directly magnitude)))
+pub first_any_integer : (P : Text → Type 0) → ((s : Text) → P (98 ∷ 39 ∷ s)) → ((s : Text) → P (43 ∷ s)) → ((s : Text) → P (45 ∷ s))
+    → ((c : ℕ) (s : Text) → is_ascii_digit c ≡ true → P (c ∷ s)) → First P AnyInteger
+first_any_integer P byte plus minus digit =
+    first_or (first_means (first_byte P byte)) (first_or (first_behind P 43 _ plus) (first_or (first_behind P 45 _ minus) (first_directly magnitude)))
   where
     magnitude : First P Magnitude
-    magnitude = first_or (first_behind P 48 _ (λ s. digit 48 s refl)) (first_or (first_behind P 48 _ (λ s. digit 48 s refl)) (first_or (first_behind P 48 _ (λ s. digit 48 s refl)) (first_decimal P digit)))
+    magnitude = first_or (first_behind P 48 _ (λ s. digit 48 s refl))
+        (first_or (first_behind P 48 _ (λ s. digit 48 s refl)) (first_or (first_behind P 48 _ (λ s. digit 48 s refl)) (first_decimal P digit)))
 
-pub first_untyped_integer : (P : Text → Type 0) → ((s : Text) → P (98 ∷ 39 ∷ s)) → ((s : Text) → P (43 ∷ s)) → ((s : Text) → P (45 ∷ s)) → ((c : ℕ) (s : Text) → is_ascii_digit c ≡ true → P (c ∷ s)) → First P UntypedInteger
+pub first_untyped_integer : (P : Text → Type 0) → ((s : Text) → P (98 ∷ 39 ∷ s)) → ((s : Text) → P (43 ∷ s)) → ((s : Text) → P (45 ∷ s))
+    → ((c : ℕ) (s : Text) → is_ascii_digit c ≡ true → P (c ∷ s)) → First P UntypedInteger
 first_untyped_integer P byte plus minus digit = first_when (λ s. not (is_float s)) (first_any_integer P byte plus minus digit)
 
 abbrev pub OpensNoInteger : Text → Type 0
@@ -51,7 +56,8 @@ OpensNoInteger s = opens_integer s ≡ false
 
 digit_no_name : (c : ℕ) → is_ascii_digit c ≡ true → starts_name c ≡ false
 unfolding unicode_ident
-digit_no_name c e = in_range_all (λ k. starts_name k ≡ false) 10 48 57 c refl (refl, (refl, (refl, (refl, (refl, (refl, (refl, (refl, (refl, (refl, tt)))))))))) e
+digit_no_name c e =
+    in_range_all (λ k. starts_name k ≡ false) 10 48 57 c refl (refl, (refl, (refl, (refl, (refl, (refl, (refl, (refl, (refl, (refl, tt)))))))))) e
 
 name_no_digit : (c : ℕ) → starts_name c ≡ true → is_ascii_digit c ≡ false
 name_no_digit c e = go (is_ascii_digit c) refl
@@ -145,7 +151,9 @@ unnamed_raw_bytes (suc n) s = unnamed_literal (98 ∷ 114 ∷ 35 ∷ (hashes n +
 
 -- hashes and a quote begin what is raw
 first_raw : (P : Text → Type 0) → ((n : ℕ) (s : Text) → P (hashes n ++ 34 ∷ s)) → First P Raw
-first_raw P k = record { holds = λ t next a z. rw (z.same, append_assoc (hashes z.count) (34 ∷ (a ++ 34 ∷ hashes z.count)) next) (k z.count ((a ++ 34 ∷ hashes z.count) ++ next)) }
+first_raw P k = record {
+  holds = λ t next a z. rw (z.same, append_assoc (hashes z.count) (34 ∷ (a ++ 34 ∷ hashes z.count)) next) (k z.count ((a ++ 34 ∷ hashes z.count) ++ next));
+}
 
 first_then_behind : {A : Type 0} (P : Text → Type 0) (c : ℕ) {L : Lang A} → First (λ s. P (c ∷ s)) L → First P (Behind c L)
 first_then_behind P c h = record { holds = λ t next a z. rw z.split (h.holds z.rest next a z.spelled) }
@@ -155,25 +163,31 @@ unfolding unicode_ident
 quotes_start = (refl, refl)
 
 pub unnamed_string : First Unnamed String
-unnamed_string = first_or (first_behind Unnamed 34 _ (λ s. unnamed_mark 34 s quotes_start.0 refl)) (first_then_behind Unnamed 114 (first_raw (λ s. Unnamed (114 ∷ s)) unnamed_raw))
+unnamed_string = first_or (first_behind Unnamed 34 _ (λ s. unnamed_mark 34 s quotes_start.0 refl))
+    (first_then_behind Unnamed 114 (first_raw (λ s. Unnamed (114 ∷ s)) unnamed_raw))
 
 pub unnamed_byte_string : First Unnamed ByteString
-unnamed_byte_string = first_then_behind Unnamed 98 (first_or (first_behind (λ s. Unnamed (98 ∷ s)) 34 _ (λ s. unnamed_literal (98 ∷ 34 ∷ s) refl refl)) (first_then_behind (λ s. Unnamed (98 ∷ s)) 114 (first_means (first_raw (λ s. Unnamed (98 ∷ 114 ∷ s)) unnamed_raw_bytes))))
+unnamed_byte_string = first_then_behind Unnamed 98 (first_or (first_behind (λ s. Unnamed (98 ∷ s)) 34 _ (λ s. unnamed_literal (98 ∷ 34 ∷ s) refl refl))
+    (first_then_behind (λ s. Unnamed (98 ∷ s)) 114 (first_means (first_raw (λ s. Unnamed (98 ∷ 114 ∷ s)) unnamed_raw_bytes))))
 
 pub unnamed_char : First Unnamed Char
 unnamed_char = first_char Unnamed (λ s. unnamed_mark 39 s quotes_start.1 refl)
 
 pub unnamed_any_integer : First Unnamed AnyInteger
-unnamed_any_integer = first_any_integer Unnamed (λ s. unnamed_literal (98 ∷ 39 ∷ s) refl refl) (λ s. unnamed_mark 43 s no_signs.0 refl) (λ s. unnamed_mark 45 s no_signs.1 refl) (λ c s e. unnamed_mark c s (digit_no_name c e) (apart is_ascii_digit 114 c refl e))
+unnamed_any_integer = first_any_integer Unnamed (λ s. unnamed_literal (98 ∷ 39 ∷ s) refl refl) (λ s. unnamed_mark 43 s no_signs.0 refl)
+    (λ s. unnamed_mark 45 s no_signs.1 refl) (λ c s e. unnamed_mark c s (digit_no_name c e) (apart is_ascii_digit 114 c refl e))
 
 pub unnamed_integer : First Unnamed UntypedInteger
-unnamed_integer = first_untyped_integer Unnamed (λ s. unnamed_literal (98 ∷ 39 ∷ s) refl refl) (λ s. unnamed_mark 43 s no_signs.0 refl) (λ s. unnamed_mark 45 s no_signs.1 refl) (λ c s e. unnamed_mark c s (digit_no_name c e) (apart is_ascii_digit 114 c refl e))
+unnamed_integer = first_untyped_integer Unnamed (λ s. unnamed_literal (98 ∷ 39 ∷ s) refl refl) (λ s. unnamed_mark 43 s no_signs.0 refl)
+    (λ s. unnamed_mark 45 s no_signs.1 refl) (λ c s e. unnamed_mark c s (digit_no_name c e) (apart is_ascii_digit 114 c refl e))
 
 -- ---- words of values
 
 -- where a name stands, such a word does not
-pub name_no_word : (c : ℕ) (w : Text) → (114 == c) ≡ false → BeginsAndGoesOn starts_name continues_name (c ∷ w) → if_no_value_word (c ∷ w) ≡ None → First (λ s. stands (c ∷ w) s ≡ false) UntypedName
-name_no_word c w r every none = first_or (first_behind _ 114 _ (λ s. rw r refl)) (record { holds = λ t next n z. go t next n z (stands (c ∷ w) (t ++ next)) refl })
+pub name_no_word : (c : ℕ) (w : Text) → (114 == c) ≡ false → BeginsAndGoesOn starts_name continues_name (c ∷ w) → if_no_value_word (c ∷ w) ≡ None
+    → First (λ s. stands (c ∷ w) s ≡ false) UntypedName
+name_no_word c w r every none =
+    first_or (first_behind _ 114 _ (λ s. rw r refl)) (record { holds = λ t next n z. go t next n z (stands (c ∷ w) (t ++ next)) refl })
   where
     go : (t next n : Text) → Means PlainIdentifier if_no_value_word t next n → (b : Bool) → stands (c ∷ w) (t ++ next) ≡ b → b ≡ false
     go t next n z false e = refl
@@ -181,8 +195,10 @@ name_no_word c w r every none = first_or (first_behind _ 114 _ (λ s. rw r refl)
         let k = stands-splits (c ∷ w) (t ++ next) e in
         let rest : Text = drop (length (c ∷ w)) (t ++ next) in
         let word : plain_identifier ((c ∷ w) ++ rest) ≡ got (c ∷ w) rest =
-        (word_identifier.complete (c ∷ w) rest (c ∷ w) (ap (λ s. not (opens_literal s)) (sym k.0) ∙ z.spelled.0, record { same = refl; every = every; longest = k.1 })).answer in
-        let both : got (c ∷ w) rest ≡ got z.value next = sym word ∙ ap plain_identifier (sym k.0) ∙ (word_identifier.complete t next z.value z.spelled).answer in
+        (word_identifier.complete (c ∷ w) rest (c ∷ w)
+        (ap (λ s. not (opens_literal s)) (sym k.0) ∙ z.spelled.0, record { same = refl; every = every; longest = k.1 })).answer in
+        let both : got (c ∷ w) rest ≡ got z.value next =
+        sym word ∙ ap plain_identifier (sym k.0) ∙ (word_identifier.complete t next z.value z.spelled).answer in
         let same : c ∷ w ≡ z.value = cc in
         absurd (let x : None ≡ Some n = sym none ∙ ap if_no_value_word same ∙ z.meant in cc)
 

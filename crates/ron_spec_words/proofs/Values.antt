@@ -21,10 +21,12 @@ values_any = record { are = λ t next a z. tt }
 pub values_nothing : {A : Type 0} {P : A → Type 0} → Values P Nothing
 values_nothing = record { are = λ t next a z. absurd z }
 
-pub values_means : {A B : Type 0} {P : A → Type 0} {Q : B → Type 0} {L : Lang A} {f : A → Option B} → ((a : A) (b : B) → P a → f a ≡ Some b → Q b) → Values P L → Values Q (Means L f)
+pub values_means : {A B : Type 0} {P : A → Type 0} {Q : B → Type 0} {L : Lang A} {f : A → Option B} → ((a : A) (b : B) → P a → f a ≡ Some b → Q b) → Values P L
+    → Values Q (Means L f)
 values_means k h = record { are = λ t next b z. k z.value b (h.are t next z.value z.spelled) z.meant }
 
-pub values_then : {A B : Type 0} {P : A → Type 0} {Q : B → Type 0} {L : Lang A} {M : A → Text → Lang B} → Values P L → ((a : A) (gap : Text) → Values (λ b. P a → Q b) (M a gap)) → Values Q (Then L M)
+pub values_then : {A B : Type 0} {P : A → Type 0} {Q : B → Type 0} {L : Lang A} {M : A → Text → Lang B} → Values P L
+    → ((a : A) (gap : Text) → Values (λ b. P a → Q b) (M a gap)) → Values Q (Then L M)
 values_then h k = record { are = λ t next b z. (k z.value z.gap).are z.right next b z.second (h.are z.left (z.gap ++ (z.right ++ next)) z.value z.first) }
 
 pub values_or : {A : Type 0} {P : A → Type 0} {L M : Lang A} → Values P L → Values P M → Values P (Or L M)

@@ -28,7 +28,8 @@ walk_any true (here d s) = here d s
 walk_any true (on d c t next e u h k r) = on d c t next e u (ends_alike d c h) k (walk_any true r)
 
 level-suc : (d c : ℕ) → ends true d c ≡ false → suc (level d c) ≡ level (suc d) c
-level-suc zero c e = let k = or_parts (is_closing c) false e in rw k.0 (elim (is_opening c) as (λ b. suc (cond b 1 0) ≡ cond b 2 1) [ true ↦ refl | false ↦ refl ])
+level-suc zero c e = let k = or_parts (is_closing c) false e in
+    rw k.0 (elim (is_opening c) as (λ b. suc (cond b 1 0) ≡ cond b 2 1) [ true ↦ refl | false ↦ refl ])
 level-suc (suc d) c e = go (is_opening c) (is_closing c)
   where
     go : (a b : Bool) → suc (cond a (suc (suc d)) (cond b d (suc d))) ≡ cond a (suc (suc (suc d))) (cond b (suc d) (suc (suc d)))
@@ -48,8 +49,10 @@ abbrev pub is_other : ℕ → Bool
 is_other c = not (is_opening c || (is_closing c || (c == 44)))
 
 -- what is of a class without these is none of them
-pub other_class : (p : ℕ → Bool) → (p 40 ≡ false) × (p 91 ≡ false) × (p 123 ≡ false) → (p 41 ≡ false) × (p 93 ≡ false) × (p 125 ≡ false) → p 44 ≡ false → (c : ℕ) → p c ≡ true → is_other c ≡ true
-other_class p o z m c h = rw (apart p 40 c o.0 h, apart p 91 c o.1 h, apart p 123 c o.2 h, apart p 41 c z.0 h, apart p 93 c z.1 h, apart p 125 c z.2 h, apart p 44 c m h) refl
+pub other_class : (p : ℕ → Bool) → (p 40 ≡ false) × (p 91 ≡ false) × (p 123 ≡ false) → (p 41 ≡ false) × (p 93 ≡ false) × (p 125 ≡ false) → p 44 ≡ false
+    → (c : ℕ) → p c ≡ true → is_other c ≡ true
+other_class p o z m c h =
+    rw (apart p 40 c o.0 h, apart p 91 c o.1 h, apart p 123 c o.2 h, apart p 41 c z.0 h, apart p 93 c z.1 h, apart p 125 c z.2 h, apart p 44 c m h) refl
 
 pub run_other : (c : ℕ) → starts_run c ≡ true → is_other c ≡ true
 unfolding unicode_ident
@@ -112,7 +115,8 @@ pub closing_no_opening : (c : ℕ) → is_closing c ≡ true → is_opening c �
 closing_no_opening c h = rw (apart is_closing 40 c refl h, apart is_closing 91 c refl h, apart is_closing 123 c refl h) refl
 
 pub walk_open : (b : Bool) (d c : ℕ) (s : Text) → is_opening c ≡ true → Walk b d (c ∷ s) (suc d) s
-walk_open b d c s h = on d c [] s (suc d) s (goes_on b d c (opening_no_closing c h) (apart is_opening 44 c refl h)) (opening_alone c s h) (rw h (here (suc d) s))
+walk_open b d c s h =
+    on d c [] s (suc d) s (goes_on b d c (opening_no_closing c h) (apart is_opening 44 c refl h)) (opening_alone c s h) (rw h (here (suc d) s))
 
 pub walk_close : (b : Bool) (d c : ℕ) (s : Text) → is_closing c ≡ true → Walk b (suc d) (c ∷ s) d s
 walk_close b d c s h = on (suc d) c [] s d s refl (closing_alone c s h) (rw (closing_no_opening c h, h) (here d s))

@@ -1,5 +1,6 @@
 -- Reader functions of words, one lemma for each way to make a word of words: exactness of each word rests on it.
-use Rattle.std.proofs.Common.{◌≡◌, ℕ, ◌==◌, Bool, true, false, not, cond, [], ◌∷◌, ◌++◌, inl, inr, Option, Some, None, refl, sym, ap, ap₂, ◌∙◌, eqb-true, eq-eqb}
+use Rattle.std.proofs.Common.{◌≡◌, ℕ, ◌==◌, Bool, true, false, not, cond, [], ◌∷◌, ◌++◌, inl, inr, Option, Some, None, refl, sym, ap, ap₂, ◌∙◌, eqb-true}
+use Rattle.std.proofs.Common.{eq-eqb}
 use Rattle.ron_spec_words.specs.Characters.{Text}
 use Rattle.ron_spec_words.specs.Runs.{begins, Every, run_of, after_run}
 use Rattle.ron_spec_words.specs.Lang.{Lang, Nothing, Mark, Run, Behind, NotBefore, Means, Or, When}
@@ -32,23 +33,27 @@ pub sound_means : {A B : Type 0} (r : Reader A) (L : Lang A) (f : A → Option B
 sound_means r L f x s b rest e = let k = meant_got (r s) f b rest e in let y = x s k.0 rest k.1 in
     record { stretch = y.stretch; split = y.split; spelled = record { value = k.0; spelled = y.spelled; meant = k.2 } }
 
-pub answers_means : {A B : Type 0} (r : Reader A) (f : A → Option B) (t next : Text) (a : A) (b : B) → f a ≡ Some b → Answers r t next a → Answers (means r f) t next b
+pub answers_means : {A B : Type 0} (r : Reader A) (f : A → Option B) (t next : Text) (a : A) (b : B) → f a ≡ Some b → Answers r t next a
+    → Answers (means r f) t next b
 answers_means r f t next a b e z = record { answer = ap (λ o. meant o f) z.answer ∙ ap (λ o. given o next) e }
 
 pub sound_like : {A : Type 0} (r : Reader A) (L M : Lang A) → ((t next : Text) (a : A) → L t next a → M t next a) → Sound r L → Sound r M
 sound_like r L M to x s a rest e = let y = x s a rest e in record { stretch = y.stretch; split = y.split; spelled = to y.stretch rest a y.spelled }
 
-pub sound_pick : {A : Type 0} (p : Text → Bool) (r q : Reader A) (L M : Lang A) → Sound r L → Sound q M → Sound (pick p r q) (Or (When p L) (When (λ s. not (p s)) M))
+pub sound_pick : {A : Type 0} (p : Text → Bool) (r q : Reader A) (L M : Lang A) → Sound r L → Sound q M
+    → Sound (pick p r q) (Or (When p L) (When (λ s. not (p s)) M))
 sound_pick {A} p r q L M x y s a rest e = go (p s) refl e
   where
     go : (b : Bool) → p s ≡ b → cond b (r s) (q s) ≡ got a rest → Takes (Or (When p L) (When (λ s. not (p s)) M)) s a rest
     go true h k = let z = x s a rest k in record { stretch = z.stretch; split = z.split; spelled = inl (ap p (sym z.split) ∙ h, z.spelled) }
     go false h k = let z = y s a rest k in record { stretch = z.stretch; split = z.split; spelled = inr (ap not (ap p (sym z.split) ∙ h), z.spelled) }
 
-pub answers_left : {A : Type 0} (p : Text → Bool) (r q : Reader A) (t next : Text) (a : A) → p (t ++ next) ≡ true → Answers r t next a → Answers (pick p r q) t next a
+pub answers_left : {A : Type 0} (p : Text → Bool) (r q : Reader A) (t next : Text) (a : A) → p (t ++ next) ≡ true → Answers r t next a
+    → Answers (pick p r q) t next a
 answers_left p r q t next a e z = record { answer = rw e z.answer }
 
-pub answers_right : {A : Type 0} (p : Text → Bool) (r q : Reader A) (t next : Text) (a : A) → p (t ++ next) ≡ false → Answers q t next a → Answers (pick p r q) t next a
+pub answers_right : {A : Type 0} (p : Text → Bool) (r q : Reader A) (t next : Text) (a : A) → p (t ++ next) ≡ false → Answers q t next a
+    → Answers (pick p r q) t next a
 answers_right p r q t next a e z = record { answer = rw e z.answer }
 
 -- the test is no part of what is read
@@ -86,7 +91,8 @@ word_mark c a = record {
 module _ (p : ℕ → Bool) where
   run-split : (s : Text) → s ≡ run_of p s ++ after_run p s
   run-split [] = refl
-  run-split (c ∷ s) = elim (p c) as (λ b. ◌≡◌ {A = Text} (c ∷ s) (cond b (c ∷ run_of p s) [] ++ cond b (after_run p s) (c ∷ s))) [ true ↦ ap (λ z. c ∷ z) (run-split s) | false ↦ refl ]
+  run-split (c ∷ s) = elim (p c)
+      as (λ b. ◌≡◌ {A = Text} (c ∷ s) (cond b (c ∷ run_of p s) [] ++ cond b (after_run p s) (c ∷ s))) [ true ↦ ap (λ z. c ∷ z) (run-split s) | false ↦ refl ]
 
   every-run : (s : Text) → Every p (run_of p s)
   every-run [] = tt
@@ -124,7 +130,10 @@ module _ (p q : ℕ → Bool) where
 
   run_answers : (t next a : Text) → Run p q t next a → Answers (run p q) t next a
   run_answers [] next a l = absurd l.every
-  run_answers (c ∷ t) next a l = record { answer = rw l.every.0 (ap₂ (λ x y. got (c ∷ x) y) (run-append q t next l.every.1 l.longest) (after-append q t next l.every.1 l.longest) ∙ ap (λ z. got z next) l.same) }
+  run_answers (c ∷ t) next a l = record {
+    answer = rw l.every.0
+        (ap₂ (λ x y. got (c ∷ x) y) (run-append q t next l.every.1 l.longest) (after-append q t next l.every.1 l.longest) ∙ ap (λ z. got z next) l.same);
+  }
 
   run_calm : (s : Text) → run p q s ≡ failed deep → ⊥
   run_calm [] e = cc
@@ -141,7 +150,12 @@ module _ {A : Type 0} (c : ℕ) (r : Reader A) (L : Lang A) (h : IsWordReader r 
   behind_takes (d ∷ s) a rest e = go (d == c) refl e
     where
       go : (b : Bool) → (d == c) ≡ b → cond b (r s) (failed bad) ≡ got a rest → Takes (Behind c L) (d ∷ s) a rest
-      go true k q = let y = h.sound s a rest q in record { stretch = c ∷ y.stretch; split = ap₂ (λ x z. x ∷ z) (eqb-true d c k) y.split; spelled = record { rest = y.stretch; split = refl; spelled = y.spelled } }
+      go true k q = let y = h.sound s a rest q in
+          record {
+            stretch = c ∷ y.stretch;
+            split = ap₂ (λ x z. x ∷ z) (eqb-true d c k) y.split;
+            spelled = record { rest = y.stretch; split = refl; spelled = y.spelled };
+          }
       go false k q = absurd (cc)
 
   behind_calm : (s : Text) → behind c r s ≡ failed deep → ⊥
@@ -172,7 +186,9 @@ module _ {A : Type 0} (p : ℕ → Bool) (r : Reader A) (L : Lang A) (h : IsWord
 
   pub word_not_before : IsWordReader (not_before p r) (NotBefore p L)
   word_not_before = record {
-    sound = λ s a rest e. let k = unless_got (r s) a rest e in let y = h.sound s a rest k.0 in record { stretch = y.stretch; split = y.split; spelled = record { spelled = y.spelled; other = k.1 } };
+    sound = λ s a rest e. let k = unless_got (r s) a rest e in
+        let y = h.sound s a rest k.0 in
+        record { stretch = y.stretch; split = y.split; spelled = record { spelled = y.spelled; other = k.1 } };
     complete = λ t next a l. record { answer = ap (unless_before p) (h.complete t next a l.spelled).answer ∙ rw l.other refl };
     calm = λ s e. unless_calm (r s) (h.calm s) e;
   }
@@ -190,7 +206,8 @@ pub word_fail : {A : Type 0} → IsWordReader (fail {A = A} bad) Nothing
 word_fail = record { sound = λ s b rest e. absurd (cc); complete = λ t next b l. absurd l; calm = λ s e. cc }
 
 -- where what comes next tells the two apart
-pub word_choose : {A : Type 0} (p : Text → Bool) {r q : Reader A} {L M : Lang A} → First (λ s. p s ≡ true) L → First (λ s. p s ≡ false) M → IsWordReader r L → IsWordReader q M → IsWordReader (pick p r q) (Or L M)
+pub word_choose : {A : Type 0} (p : Text → Bool) {r q : Reader A} {L M : Lang A} → First (λ s. p s ≡ true) L → First (λ s. p s ≡ false) M → IsWordReader r L
+    → IsWordReader q M → IsWordReader (pick p r q) (Or L M)
 word_choose {A} p {r} {q} {L} {M} l m x y = record {
   sound = sound_like _ _ _ (without_test p (λ s. not (p s)) L M) (sound_pick p r q L M x.sound y.sound);
   complete = from;

@@ -31,7 +31,8 @@ Other s = begins is_other s ≡ true
 pub passes_name : {b : Bool} {F : Text → Type 0} → Passes b Name F
 passes_name = passes_or
     (passes_token (first_behind Other 114 _ (λ s. refl)) (λ t next a z _. token_raw_name t next a z))
-    (passes_token (first_when (λ s. not (opens_literal s)) (first_not_before (first_run Other _ _ (λ c s e. run_other c (rw e refl))))) (λ t next a z _. token_plain_name t next a z))
+    (passes_token (first_when (λ s. not (opens_literal s)) (first_not_before (first_run Other _ _ (λ c s e. run_other c (rw e refl)))))
+    (λ t next a z _. token_plain_name t next a z))
 
 pub passes_named : {b : Bool} {F : Text → Type 0} (n : Text) → Passes b (Named n) F
 passes_named n = passes_means passes_name
@@ -39,7 +40,8 @@ passes_named n = passes_means passes_name
 pub passes_untyped_name : {b : Bool} {F : Text → Type 0} → Passes b UntypedName F
 passes_untyped_name = passes_or
     (passes_token (first_behind Other 114 _ (λ s. refl)) (λ t next a z _. token_raw_name t next a z))
-    (passes_means (passes_token (first_when (λ s. not (opens_literal s)) (first_run Other _ _ (λ c s e. run_other c (rw e refl)))) (λ t next a z _. token_identifier t next a z)))
+    (passes_means (passes_token (first_when (λ s. not (opens_literal s)) (first_run Other _ _ (λ c s e. run_other c (rw e refl))))
+    (λ t next a z _. token_identifier t next a z)))
 
 plain_other : (w next : Text) → is_plain_run w ≡ true → Other (w ++ next)
 plain_other [] next e = absurd (cc)
@@ -53,7 +55,9 @@ pub passes_fixed : {A : Type 0} {b : Bool} {F : Text → Type 0} (w : Text) (a :
 passes_fixed w a e = passes_token (record { holds = λ t next x z. rw z.same (plain_other w next e) }) (λ t next x z _. token_fixed w a e t next x z)
 
 -- the fixed words of the format
-pub plain_words : (is_plain_run (codes "true") ≡ true) × (is_plain_run (codes "false") ≡ true) × (is_plain_run (codes "None") ≡ true) × (is_plain_run (codes "Some") ≡ true) × (is_plain_run (codes "enable") ≡ true) × (is_plain_run (codes "type") ≡ true) × (is_plain_run (codes "schema") ≡ true)
+pub plain_words : (is_plain_run (codes "true") ≡ true) × (is_plain_run (codes "false") ≡ true) × (is_plain_run (codes "None") ≡ true)
+    × (is_plain_run (codes "Some") ≡ true) × (is_plain_run (codes "enable") ≡ true) × (is_plain_run (codes "type") ≡ true)
+    × (is_plain_run (codes "schema") ≡ true)
 unfolding unicode_ident
 plain_words = (refl, refl, refl, refl, refl, refl, refl)
 
@@ -92,7 +96,8 @@ signs_alone = (λ s. refl, λ s. refl)
 
 -- a sign and what follows it are two tokens
 pub passes_number : {b : Bool} → Passes b Number EndsRun
-passes_number = passes_or (passes_behind 43 refl signs_alone.0 (unsigned_no_gap false) (passes_unsigned false)) (passes_or (passes_behind 45 refl signs_alone.1 (unsigned_no_gap true) (passes_unsigned true)) (passes_unsigned false))
+passes_number = passes_or (passes_behind 43 refl signs_alone.0 (unsigned_no_gap false) (passes_unsigned false))
+    (passes_or (passes_behind 45 refl signs_alone.1 (unsigned_no_gap true) (passes_unsigned true)) (passes_unsigned false))
 
 passes_integer_before : {b : Bool} → Passes b AnyInteger EndsRun
 passes_integer_before = passes_or (passes_means passes_byte) passes_number
@@ -108,7 +113,8 @@ passes_untyped_integer = passes_when (λ s. not (is_float s)) passes_any_integer
 
 -- ---- marks
 
-marks_alone : ((s : Text) → token (58 ∷ s) ≡ Some s) × ((s : Text) → token (61 ∷ s) ≡ Some s) × ((s : Text) → token (35 ∷ s) ≡ Some s) × ((s : Text) → token (33 ∷ s) ≡ Some s)
+marks_alone : ((s : Text) → token (58 ∷ s) ≡ Some s) × ((s : Text) → token (61 ∷ s) ≡ Some s) × ((s : Text) → token (35 ∷ s) ≡ Some s)
+    × ((s : Text) → token (33 ∷ s) ≡ Some s)
 unfolding token unicode_ident
 marks_alone = (λ s. refl, λ s. refl, λ s. refl, λ s. refl)
 

@@ -1,9 +1,11 @@
 -- Escapes: what a backslash and the characters behind it spell.
-use Rattle.std.specs.Prelude.{◌≡◌, ℕ, zero, suc, ◌+◌, ◌*◌, nat_le, Bool, true, ◌&&◌, ◌||◌, ◌==◌, if◌then◌else◌, length, List, [], ◌∷◌, ◌++◌, codes, chars, encode_utf8, Option, Some, None}
+use Rattle.std.specs.Prelude.{◌≡◌, ℕ, zero, suc, ◌+◌, ◌*◌, nat_le, Bool, true, ◌&&◌, ◌||◌, ◌==◌, if◌then◌else◌, length, List, [], ◌∷◌, ◌++◌, codes, chars}
+use Rattle.std.specs.Prelude.{encode_utf8, Option, Some, None}
 use Rattle.std.specs.Char.{is_ascii_hexdigit, is_ascii, digit_value}
 use Rattle.std.specs.Str.{is_utf8}
 use lib.Utf8.{scalar}
-use Rattle.ron_spec_words.specs.Characters.{Text, single_quote, double_quote, backslash, left_brace, right_brace, carriage_return, line_feed, small_n, small_r, small_t, small_x, space, tab, zero_digit}
+use Rattle.ron_spec_words.specs.Characters.{Text, single_quote, double_quote, backslash, left_brace, right_brace, carriage_return, line_feed, small_n, small_r}
+use Rattle.ron_spec_words.specs.Characters.{small_t, small_x, space, tab, zero_digit}
 use Rattle.ron_spec_words.specs.Runs.{is_at, begins_with}
 use Rattle.ron_spec_words.specs.Lang.{Lang, done, At, Mark, Run, Behind, Means, Or}
 use Rattle.ron_spec_words.specs.Reader.{bad, got, Reader, fail, mark, run, behind, means, pick}
@@ -50,7 +52,8 @@ abbrev pub HexBytes : Lang (List ℕ)
 HexBytes t next [] = t ≡ []
 HexBytes t next (b ∷ bs) = Directly (At HexByte b) (λ _ u n _. HexBytes u n bs) t next done
 
--- A character, by the bytes of its UTF-8, one to four. The UTF-8 of no character begins with that of another, so the shortest run that forms a character is the only one.
+-- A character, by the bytes of its UTF-8, one to four. The UTF-8 of no character begins with that of another, so the shortest run that forms a character is the
+-- only one.
 abbrev pub HexCharacter : Lang ℕ
 HexCharacter t next c = (scalar c ≡ true) × HexBytes t next (encode_utf8 c)
 
@@ -60,7 +63,8 @@ named_character t = if nat_le (length t) 6 && scalar (place_value 16 t) then Som
 
 -- `\u{H..}`
 abbrev pub UnicodeEscape : Lang ℕ
-UnicodeEscape = Behind backslash (Behind 117 (Behind left_brace (Directly (Means (Run is_ascii_hexdigit is_ascii_hexdigit) named_character) (λ c. Mark right_brace c))))
+UnicodeEscape =
+    Behind backslash (Behind 117 (Behind left_brace (Directly (Means (Run is_ascii_hexdigit is_ascii_hexdigit) named_character) (λ c. Mark right_brace c))))
 
 -- an escape, of these two or a plain one
 abbrev pub Escape : Lang ℕ → Lang ℕ → Lang ℕ
@@ -117,10 +121,12 @@ unfoldable pub hex_character : Reader ℕ
 hex_character = hex_bytes 4 []
 
 unfoldable pub unicode_escape : Reader ℕ
-unicode_escape = behind backslash (behind 117 (behind left_brace (directly (means (run is_ascii_hexdigit is_ascii_hexdigit) named_character) (λ c. mark right_brace c))))
+unicode_escape =
+    behind backslash (behind 117 (behind left_brace (directly (means (run is_ascii_hexdigit is_ascii_hexdigit) named_character) (λ c. mark right_brace c))))
 
 abbrev pub escape : Reader ℕ → Reader ℕ → Reader ℕ
 escape hex unicode = pick (begins_with (codes "\\x")) hex (pick (begins_with (codes "\\u")) unicode plain_escape)
 
 unfoldable pub continuation : Reader Text
-continuation = means (behind backslash (pick (is_at carriage_return) (behind carriage_return (run is_line_feed in_continuation)) (run is_line_feed in_continuation))) (always [])
+continuation = means
+    (behind backslash (pick (is_at carriage_return) (behind carriage_return (run is_line_feed in_continuation)) (run is_line_feed in_continuation))) (always [])

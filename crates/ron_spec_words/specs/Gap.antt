@@ -11,7 +11,8 @@
 -- first leaves one way to split where the plain rule has several of the same meaning. For the gaps around a
 -- document's value this is proved (clause `any_gaps`). A gap is handed on to what stands behind it, since a raw text
 -- keeps it.
-use Rattle.std.specs.Prelude.{◌-◌, length, take, drop, ◌≡◌, ℕ, zero, suc, Bool, true, false, not, ◌||◌, ◌==◌, if◌then◌else◌, [], ◌∷◌, ◌++◌, Option, Some, None, option_map}
+use Rattle.std.specs.Prelude.{◌-◌, length, take, drop, ◌≡◌, ℕ, zero, suc, Bool, true, false, not, ◌||◌, ◌==◌, if◌then◌else◌, [], ◌∷◌, ◌++◌, Option, Some, None}
+use Rattle.std.specs.Prelude.{option_map}
 use Rattle.std.specs.Option.{unwrap_or}
 use Rattle.ron_spec_words.specs.Characters.{Text, is_blank, line_feed, right_parenthesis, star, comma, slash, colon, right_bracket, right_brace}
 use Rattle.ron_spec_words.specs.Runs.{Every, begins_with}
@@ -70,7 +71,8 @@ abbrev pub after_block : ℕ → Text → Option Text
 after_block n [] = None
 after_block n (c ∷ []) = None
 after_block zero (c ∷ d ∷ s) = if closes_block (c ∷ d ∷ s) then Some s else if opens_block (c ∷ d ∷ s) then after_block 1 s else after_block 0 (d ∷ s)
-after_block (suc n) (c ∷ d ∷ s) = if closes_block (c ∷ d ∷ s) then after_block n s else if opens_block (c ∷ d ∷ s) then after_block (suc (suc n)) s else after_block (suc n) (d ∷ s)
+after_block (suc n) (c ∷ d ∷ s) =
+    if closes_block (c ∷ d ∷ s) then after_block n s else if opens_block (c ∷ d ∷ s) then after_block (suc (suc n)) s else after_block (suc n) (d ∷ s)
 
 -- what follows the comment that begins here, if one does and it ends
 unfoldable pub after_comment : Text → Option Text
@@ -80,7 +82,8 @@ after_comment s = if opens_line s then Some (after_line (drop 2 s)) else if open
 unfoldable pub skip_from : ℕ → Text → Text
 skip_from k [] = []
 skip_from (suc k) (c ∷ s) = skip_from k s
-skip_from zero (c ∷ s) = if is_blank c then skip_from zero s else unwrap_or (option_map (λ rest. skip_from (length s - length rest) s) (after_comment (c ∷ s))) (c ∷ s)
+skip_from zero (c ∷ s) =
+    if is_blank c then skip_from zero s else unwrap_or (option_map (λ rest. skip_from (length s - length rest) s) (after_comment (c ∷ s))) (c ∷ s)
 
 unfoldable pub skip : Text → Text
 skip s = skip_from zero s

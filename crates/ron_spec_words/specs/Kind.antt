@@ -16,7 +16,8 @@ abbrev pub kind_at : Text → Kind
 kind_at [] = broken
 kind_at (c ∷ s) = if separates (c ∷ s) then many_items else newtype_item
 
--- Named: after a gap a name, a gap and `:`. Else it is told by the first comma outside inner brackets that stands before the group's closing bracket and any broken token, and without such a comma by that closing bracket.
+-- Named: after a gap a name, a gap and `:`. Else it is told by the first comma outside inner brackets that stands before the group's closing bracket and any
+-- broken token, and without such a comma by that closing bracket.
 unfoldable pub kind : Text → Kind
 kind s = if opens_field (skip s) then named_fields else kind_at (seek zero zero s)
 

@@ -14,7 +14,8 @@ use Rattle.ron_spec_words.specs.Kind.{Kind, named_fields, many_items, newtype_it
 unfoldable pub kinds_from : ℕ → Text → List Kind
 kinds_from k [] = []
 kinds_from (suc k) (c ∷ s) = kinds_from k s
-kinds_from zero (c ∷ s) = unwrap_or (option_map (λ rest. (if is_opening c then kind s ∷ [] else []) ++ kinds_from (length s - length rest) s) (token (c ∷ s))) []
+kinds_from zero (c ∷ s) =
+    unwrap_or (option_map (λ rest. (if is_opening c then kind s ∷ [] else []) ++ kinds_from (length s - length rest) s) (token (c ∷ s))) []
 
 abbrev pub kinds : Text → List Kind
 kinds s = kinds_from zero s
@@ -88,7 +89,8 @@ next_table stage s groups table = if begins is_opening s then table ++ broken �
 unfoldable pub fill_from : ℕ → Stage → List ℕ → List Kind → Text → List Kind
 fill_from k stage groups table [] = table
 fill_from (suc k) stage groups table (c ∷ s) = fill_from k stage groups table s
-fill_from zero stage groups table (c ∷ s) = unwrap_or (option_map (λ rest. fill_from (length s - length rest) (next_stage stage (c ∷ s)) (next_groups (length table) (c ∷ s) groups) (next_table stage (c ∷ s) groups table) s) (token (c ∷ s))) table
+fill_from zero stage groups table (c ∷ s) = unwrap_or (option_map (λ rest. fill_from (length s - length rest) (next_stage stage (c ∷ s))
+    (next_groups (length table) (c ∷ s) groups) (next_table stage (c ∷ s) groups table) s) (token (c ∷ s))) table
 
 -- the table that the pass over a text fills
 abbrev pub kind_table : Text → List Kind
@@ -107,4 +109,5 @@ openings (on d c t next e u h k w) = if is_opening c then suc (openings w) else 
 
 -- Where whole tokens lead to an opening bracket, the kind behind it stands in the table behind those of the brackets that were passed.
 abbrev pub IsTableAt : Type 0
-IsTableAt = (commas : Bool) (d e c : ℕ) (s u : Text) (w : Walk commas d s e (c ∷ u)) → is_opening c ≡ true → slice_get (kind_table s) (openings w) ≡ Some (kind u)
+IsTableAt = (commas : Bool) (d e c : ℕ) (s u : Text) (w : Walk commas d s e (c ∷ u)) → is_opening c ≡ true
+    → slice_get (kind_table s) (openings w) ≡ Some (kind u)

@@ -88,7 +88,8 @@ At L a t next u = L t next a
 abbrev pub OptComma : {A : Type 0} → A → Lang A
 OptComma a = Or (Mark comma a) (Empty a)
 
--- Each further item behind a comma, and perhaps a last comma. The language of an item may depend on the items before it, the last of them first, and on the gap before it.
+-- Each further item behind a comma, and perhaps a last comma. The language of an item may depend on the items before it, the last of them first, and on the gap
+-- before it.
 abbrev pub Tail : {A : Type 0} → (List A → Text → Lang A) → List A → Lang (List A)
 Tail L seen t next [] = Or (Empty done) (Then (Mark comma done) (λ _ _. Empty done)) t next done
 Tail L seen t next (a ∷ xs) = Then (Mark comma done) (λ _ gap. Then (At (L seen gap) a) (λ _ _ u n _. Tail L (a ∷ seen) u n xs)) t next done

@@ -55,4 +55,5 @@ SlicesStrings = (t next s : Text) → String t next s → holds_escape t ≡ fal
 
 -- Such a byte string is the UTF-8 of what stands between its quotes.
 abbrev pub SlicesByteStrings : Type 0
-SlicesByteStrings = (t next bytes : Text) → ByteString t next bytes → holds_escape t ≡ false → (content : Text) × BetweenQuotes t content × (encode_utf8_all content ≡ bytes)
+SlicesByteStrings = (t next bytes : Text) → ByteString t next bytes → holds_escape t ≡ false
+    → (content : Text) × BetweenQuotes t content × (encode_utf8_all content ≡ bytes)

@@ -29,7 +29,8 @@ opens_named_group s = leads_to left_parenthesis (untyped_name s)
 
 -- ---- by the first comma
 
--- The text from the first token on that ends what stands outside all brackets, a comma or a closing bracket. Nothing, where the text ends or a token is broken before. The first number counts characters of a token that are still to be passed, the second open brackets.
+-- The text from the first token on that ends what stands outside all brackets, a comma or a closing bracket. Nothing, where the text ends or a token is broken
+-- before. The first number counts characters of a token that are still to be passed, the second open brackets.
 unfoldable pub seek : ℕ → ℕ → Text → Text
 seek k d [] = []
 seek (suc k) d (c ∷ s) = seek k d s
@@ -45,7 +46,8 @@ holds_several s = separates (seek zero zero s)
 
 -- ---- what is claimed of it
 
--- Several items stand here: whole tokens lead to a comma outside all brackets, and more than a gap and `)` stands behind it. A walk passes no such comma, so it is the first one.
+-- Several items stand here: whole tokens lead to a comma outside all brackets, and more than a gap and `)` stands behind it. A walk passes no such comma, so it
+-- is the first one.
 pub record HoldsSeveral (s : Text) : Type 0 where
   pub rest : Text
   pub walk : Walk false 0 s 0 (comma ∷ rest)

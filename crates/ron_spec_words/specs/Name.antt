@@ -69,7 +69,8 @@ PlainIdentifier = When (λ s. not (opens_literal s)) (Run starts_name continues_
 abbrev pub if_no_value_word : Text → Option Text
 if_no_value_word n = if list_any (same_text n) value_words then None else Some n
 
--- Where no type is given, a name is a raw identifier, or a plain one that is none of these words. It is not required there, so any character that does not go on with it may follow.
+-- Where no type is given, a name is a raw identifier, or a plain one that is none of these words. It is not required there, so any character that does not go
+-- on with it may follow.
 abbrev pub UntypedName : Lang Text
 UntypedName = Or RawName (Means PlainIdentifier if_no_value_word)
 

@@ -7,7 +7,8 @@
 -- its digits are the longest run of hexadecimal digits and `_` whatever the base, each of which has to be below the
 -- base, and no suffix is spelled only where none stands. That none of these follows is then proved (clause
 -- `number_ends`). So `12a` begins with no integer, and no text is related that the plain rule refuses.
-use Rattle.std.specs.Prelude.{◌≡◌, ℕ, ◌+◌, ◌*◌, ◌^◌, nat_lt, Bool, true, false, not, ◌||◌, ◌==◌, if◌then◌else◌, filter, length, drop, List, [], ◌∷◌, codes, ℤ, pos, neg_ℤ, Option, Some, None}
+use Rattle.std.specs.Prelude.{◌≡◌, ℕ, ◌+◌, ◌*◌, ◌^◌, nat_lt, Bool, true, false, not, ◌||◌, ◌==◌, if◌then◌else◌, filter, length, drop, List, [], ◌∷◌, codes, ℤ}
+use Rattle.std.specs.Prelude.{pos, neg_ℤ, Option, Some, None}
 use Rattle.std.specs.Char.{is_ascii_hexdigit, digit_value}
 use Rattle.std.specs.List.{list_all}
 use Rattle.ron_spec_words.specs.Characters.{Text, low_line, minus, plus, small_b, small_o, small_x, zero_digit}

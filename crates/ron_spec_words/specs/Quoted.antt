@@ -1,12 +1,14 @@
 -- What stands between quotes: characters, bytes, strings and byte strings, and raw ones.
-use Rattle.std.specs.Prelude.{◌≡◌, ℕ, zero, suc, Bool, false, ◌&&◌, ◌||◌, ◌==◌, if◌then◌else◌, drop, length, [], ◌∷◌, ◌++◌, codes, encode_utf8, encode_utf8_all, Option, Some, None}
+use Rattle.std.specs.Prelude.{◌≡◌, ℕ, zero, suc, Bool, false, ◌&&◌, ◌||◌, ◌==◌, if◌then◌else◌, drop, length, [], ◌∷◌, ◌++◌, codes, encode_utf8, encode_utf8_all}
+use Rattle.std.specs.Prelude.{Option, Some, None}
 use Rattle.std.specs.Char.{is_ascii}
 use Rattle.ron_spec_words.specs.Characters.{Text, single_quote, double_quote, hash, backslash}
 use Rattle.ron_spec_words.specs.Runs.{is_at, begins_with}
 use Rattle.ron_spec_words.specs.Lang.{Lang, Nothing, Mark, Behind, Means, Or}
 use Rattle.ron_spec_words.specs.Reader.{bad, got, failed, Reader, fail, mark, behind, meant, means, pick}
 use Rattle.ron_spec_words.specs.Directly.{Directly, AnyOne, directly, any_one}
-use Rattle.ron_spec_words.specs.Escape.{HexByte, HexAscii, HexCharacter, UnicodeEscape, Escape, Continuation, hex_byte, hex_ascii, hex_character, unicode_escape, escape, continuation}
+use Rattle.ron_spec_words.specs.Escape.{HexByte, HexAscii, HexCharacter, UnicodeEscape, Escape, Continuation, hex_byte, hex_ascii, hex_character}
+use Rattle.ron_spec_words.specs.Escape.{unicode_escape, escape, continuation}
 
 -- ---- one character
 

@@ -32,7 +32,8 @@ is_open s = not (is_at equals_sign s || opens_integer s)
 
 -- behind the start, if there is one: `..=` and a number, `..` and a number, or `..` alone
 abbrev pub Points : Option Numeral → Lang Interval
-Points start = Behind 46 (Behind 46 (Or (Behind 61 (Means UntypedInteger (up_to start true))) (Or (Means UntypedInteger (up_to start false)) (When is_open (Empty (range start false None))))))
+Points start = Behind 46 (Behind 46
+    (Or (Behind 61 (Means UntypedInteger (up_to start true))) (Or (Means UntypedInteger (up_to start false)) (When is_open (Empty (range start false None))))))
 
 -- two points stand here
 abbrev pub opens_points : Text → Bool
@@ -53,7 +54,8 @@ abbrev pub opens_interval : Text → Bool
 opens_interval s = opens_points s || opens_integer s
 
 abbrev pub points : Option Numeral → Reader Interval
-points start = behind dot (behind dot (pick (is_at equals_sign) (behind equals_sign (means untyped_integer (up_to start true))) (pick opens_integer (means untyped_integer (up_to start false)) (pick is_open (give (range start false None)) (fail bad)))))
+points start = behind dot (behind dot (pick (is_at equals_sign) (behind equals_sign (means untyped_integer (up_to start true)))
+    (pick opens_integer (means untyped_integer (up_to start false)) (pick is_open (give (range start false None)) (fail bad)))))
 
 abbrev pub behind_number : Numeral → Reader Interval
 behind_number n = pick opens_points (points (Some n)) (pick (λ s. not (opens_points s)) (give (one n)) (fail bad))

@@ -103,7 +103,8 @@ unfoldable pub tail : {A : Type 0} → (List A → Text → Reader A) → ℕ �
 tail r close zero seen s = failed bad
 tail r close (suc fuel) seen s =
     pick (is_at comma)
-    (in_sequence (mark comma done) (λ _ gap. pick (is_at close) (give []) (in_sequence (r seen gap) (λ a _. means (tail r close fuel (a ∷ seen)) (λ xs. Some (a ∷ xs))))))
+    (in_sequence (mark comma done)
+    (λ _ gap. pick (is_at close) (give []) (in_sequence (r seen gap) (λ a _. means (tail r close fuel (a ∷ seen)) (λ xs. Some (a ∷ xs))))))
     (give []) s
 
 -- the same with as much fuel as a text can need

@@ -1,6 +1,8 @@
 -- A text cut into its longest tokens, and walks over whole tokens, which count open brackets.
-use Rattle.std.specs.Prelude.{◌≡◌, ℕ, zero, suc, pred, Bool, false, not, ◌&&◌, ◌||◌, ◌==◌, nat_lt, if◌then◌else◌, drop, length, [], ◌∷◌, ◌++◌, codes, Option, Some, None}
-use Rattle.ron_spec_words.specs.Characters.{Text, is_blank, starts_name, continues_name, in_raw_name, hash, double_quote, single_quote, slash, comma, left_parenthesis, right_parenthesis, left_bracket, right_bracket, left_brace, right_brace, small_b, small_r}
+use Rattle.std.specs.Prelude.{◌≡◌, ℕ, zero, suc, pred, Bool, false, not, ◌&&◌, ◌||◌, ◌==◌, nat_lt, if◌then◌else◌, drop, length, [], ◌∷◌, ◌++◌, codes, Option}
+use Rattle.std.specs.Prelude.{Some, None}
+use Rattle.ron_spec_words.specs.Characters.{Text, is_blank, starts_name, continues_name, in_raw_name, hash, double_quote, single_quote, slash, comma}
+use Rattle.ron_spec_words.specs.Characters.{left_parenthesis, right_parenthesis, left_bracket, right_bracket, left_brace, right_brace, small_b, small_r}
 use Rattle.ron_spec_words.specs.Runs.{begins, is_at, begins_with, after_run}
 use Rattle.ron_spec_words.specs.Gap.{skip}
 use Rattle.ron_spec_words.specs.Lang.{Lang}
@@ -57,7 +59,8 @@ abbrev pub left_by : {A : Type 0} → Got A → Option Text
 left_by (got a rest) = Some rest
 left_by (failed f) = None
 
--- What follows the longest token that begins here: a gap, a string, a byte string, a char literal, a byte literal, an identifier or a run of XID_Continue, or one other character. There is none at the end of the text, and none where a gap or a literal begins that its reader function refuses.
+-- What follows the longest token that begins here: a gap, a string, a byte string, a char literal, a byte literal, an identifier or a run of XID_Continue, or
+-- one other character. There is none at the end of the text, and none where a gap or a literal begins that its reader function refuses.
 unfoldable pub token : Text → Option Text
 token s =
     if begins starts_gap s then past_gap s else
@@ -90,7 +93,8 @@ ends commas (suc d) c = false
 -- From s, with d brackets open, whole tokens lead to u, with e open, and none of them ends what stands outside all brackets.
 pub data Walk (commas : Bool) : ℕ → Text → ℕ → Text → Type 0 where
   here : (d : ℕ) (s : Text) → Walk commas d s d s
-  on : (d c : ℕ) (t next : Text) (e : ℕ) (u : Text) → ends commas d c ≡ false → token (c ∷ (t ++ next)) ≡ Some next → Walk commas (level d c) next e u → Walk commas d (c ∷ (t ++ next)) e u
+  on : (d c : ℕ) (t next : Text) (e : ℕ) (u : Text) → ends commas d c ≡ false → token (c ∷ (t ++ next)) ≡ Some next → Walk commas (level d c) next e u
+      → Walk commas d (c ∷ (t ++ next)) e u
 
 -- What the language spells before a text that F allows is a walk at its own depth. With `true`, commas may stand in it outside its brackets.
 pub record Passes {A : Type 0} (commas : Bool) (L : Lang A) (F : Text → Type 0) : Type 0 where

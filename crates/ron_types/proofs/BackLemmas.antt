@@ -1,5 +1,6 @@
 -- One level of data of code: what it stands for, and that it is accepted where what it holds is.
-use Rattle.std.proofs.Common.{◌≡◌, ◌≤◌, ◌∙◌, ℕ, zero, suc, length, take, List, [], ◌∷◌, ◌++◌, map, Some, Box, Vec, String, Global, chars, string_bytes, rules, refl, ap, arith}
+use Rattle.std.proofs.Common.{◌≡◌, ◌≤◌, ◌∙◌, ℕ, zero, suc, length, take, List, [], ◌∷◌, ◌++◌, map, Some, Box, Vec, String, Global, chars, string_bytes, rules}
+use Rattle.std.proofs.Common.{refl, ap, arith}
 use Rattle.ron_spec_grammar.specs.Data as plain
 use Rattle.ron_spec_grammar.specs.Data.{datas}
 use Rattle.ron_data.specs.declared.data.Data.{Data, the_lemmas}
@@ -35,7 +36,8 @@ accepts-Map P v h = search (rules, the_lemmas)
 
 -- ---- items
 
-pub items_normal-map : {X : Type 0} (f : plain.Data → plain.Data) (g : X → plain.Data) (xs : List X) → items_normal f (datas (map g xs)) ≡ datas (map (λ x. f (g x)) xs)
+pub items_normal-map : {X : Type 0} (f : plain.Data → plain.Data) (g : X → plain.Data) (xs : List X)
+    → items_normal f (datas (map g xs)) ≡ datas (map (λ x. f (g x)) xs)
 items_normal-map f g [] = refl
 items_normal-map f g (x ∷ xs) = ap (plain.data_and (f (g x))) (items_normal-map f g xs)
 
@@ -58,7 +60,8 @@ each_map P f (x ∷ xs) h = (h.0, each_map P f xs h.1)
 
 -- ---- structs
 
-pub view-Struct : (name : String Global) (fields : Vec (String Global × Data) Global) → data_view (held.Struct name fields) ≡ plain.struct_of (chars (string_bytes name)) (fields_view fields.items)
+pub view-Struct : (name : String Global) (fields : Vec (String Global × Data) Global)
+    → data_view (held.Struct name fields) ≡ plain.struct_of (chars (string_bytes name)) (fields_view fields.items)
 view-Struct name fields = search (rules, the_lemmas, seen-named fields.items)
   where
     seen-named : (fs : List (String Global × Data)) → seen_fields (map (λ f. (f.0, data_view f.1)) fs) ≡ fields_view fs

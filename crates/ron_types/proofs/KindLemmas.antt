@@ -1,5 +1,6 @@
 -- What is accepted of a variant, what is kept of it, and what it stands for.
-use Rattle.std.proofs.Common.{◌≡◌, ℕ, zero, suc, cond, List, [], ◌∷◌, map, Some, Vec, Box, String, Global, chars, string_bytes, Result, Ok, Err, rules, refl, sym, ap, subst, ◌∙◌}
+use Rattle.std.proofs.Common.{◌≡◌, ℕ, zero, suc, cond, List, [], ◌∷◌, map, Some, Vec, Box, String, Global, chars, string_bytes, Result, Ok, Err, rules, refl}
+use Rattle.std.proofs.Common.{sym, ap, subst, ◌∙◌}
 use Rattle.std.specs.Result.{MatchResult}
 use Rattle.ron_base.specs.declared.error.Error.{Error}
 use Rattle.ron_base.specs.declared.error.Error.TheVariants.{OutOfMemory}
@@ -13,7 +14,8 @@ use Rattle.ron_data.specs.declared.data.VariantData.TheVariants as content
 use Rattle.ron_data.specs.Datum.{Content, no_content, one_of, items_of, named_of, variant_of, data_view, content_view, items_view, fields_view, seen_fields}
 use Rattle.ron_types.specs.Accepts.{IsVariant, HoldsNothing, HoldsOne, HoldsItems, HoldsFields}
 use Rattle.ron_types.specs.FieldNames.{Field}
-use Rattle.ron_types.specs.Kinds.{Kind, Kinds, Holds, keeps, HeldBy, HeldAt, OneOr, kept_by, kept_at, name_at, names_in, enum_normal, IsFirst, IsNone, IsVariantWith, IsVariantAt, HasVariantAt, IsOneOf, holdings, table_of_enum}
+use Rattle.ron_types.specs.Kinds.{Kind, Kinds, Holds, keeps, HeldBy, HeldAt, OneOr, kept_by, kept_at, name_at, names_in, enum_normal, IsFirst, IsNone}
+use Rattle.ron_types.specs.Kinds.{IsVariantWith, IsVariantAt, HasVariantAt, IsOneOf, holdings, table_of_enum}
 use Rattle.ron_types.specs.OfTables.{IsOfOrdered, EachIsOf, holding_of}
 use Rattle.ron_types.specs.Rows.{AreNames, named_tables, named_fields}
 use Rattle.ron_types.specs.Tables.{fields}
@@ -23,7 +25,8 @@ use Rattle.ron_types.proofs.RowLemmas.{tables_named, fields_named, fields_differ
 
 -- ---- one level
 
-view-Variant : (f v : String Global) (c : VariantData) → data_view (held.Variant f v c) ≡ variant_of (chars (string_bytes f)) (chars (string_bytes v)) (content_view c)
+view-Variant : (f v : String Global) (c : VariantData)
+    → data_view (held.Variant f v c) ≡ variant_of (chars (string_bytes f)) (chars (string_bytes v)) (content_view c)
 view-Variant f v c = search (rules, the_lemmas)
 
 pub content-Unit : content_view content.Unit ≡ no_content
@@ -76,14 +79,17 @@ not_tuple P c other h = search (rules, the_lemmas)
 pub not_struct : (P : List Field → Type 0) (c : VariantData) → ((v : Vec Field Global) → c ≡ content.Struct v → ⊥) → HoldsFields P c → ⊥
 not_struct P c other h = search (rules, the_lemmas)
 
-accepts-Variant : (name : Text) (P : Text → VariantData → Type 0) (f v : String Global) (c : VariantData) → chars (string_bytes f) ≡ name → P (chars (string_bytes v)) c → IsVariant name P (held.Variant f v c)
+accepts-Variant : (name : Text) (P : Text → VariantData → Type 0) (f v : String Global) (c : VariantData) → chars (string_bytes f) ≡ name
+    → P (chars (string_bytes v)) c → IsVariant name P (held.Variant f v c)
 accepts-Variant name P f v c e h = search (rules, the_lemmas)
 
-from-Variant : (name : Text) (P : Text → VariantData → Type 0) (f v : String Global) (c : VariantData) → IsVariant name P (held.Variant f v c) → P (chars (string_bytes v)) c
+from-Variant : (name : Text) (P : Text → VariantData → Type 0) (f v : String Global) (c : VariantData) → IsVariant name P (held.Variant f v c)
+    → P (chars (string_bytes v)) c
 from-Variant name P f v c h = search (rules, the_lemmas)
 
 -- what is accepted where something else is
-pub accepted_as : {X A B : Type 0} (r : Result X Error) → (A → B) → (B → A) → MatchResult r (λ _. A) (λ e. A → e ≡ OutOfMemory) → MatchResult r (λ _. B) (λ e. B → e ≡ OutOfMemory)
+pub accepted_as : {X A B : Type 0} (r : Result X Error) → (A → B) → (B → A) → MatchResult r (λ _. A) (λ e. A → e ≡ OutOfMemory)
+    → MatchResult r (λ _. B) (λ e. B → e ≡ OutOfMemory)
 accepted_as (Ok x) there back h = there h
 accepted_as (Err e) there back h = λ b. h (back b)
 
@@ -100,8 +106,10 @@ module _ (name variant : Text) (c : VariantData) (d : Data) (w : IsVariantWith n
   with_held P h = subst (λ v. P v c) w.own_is (from-Variant name P w.enum w.own c (subst (IsVariant name P) w.is h))
 
 -- the variant of names that are these
-pub with_names : (name variant name' variant' : List ℕ) (c : VariantData) (d : Data) → name' ≡ name → variant' ≡ variant → IsVariantWith (chars name') (chars variant') c d → IsVariantWith (chars name) (chars variant) c d
-with_names name variant name' variant' c d first second w = record { enum = w.enum; own = w.own; is = w.is; enum_is = w.enum_is ∙ ap chars first; own_is = w.own_is ∙ ap chars second }
+pub with_names : (name variant name' variant' : List ℕ) (c : VariantData) (d : Data) → name' ≡ name → variant' ≡ variant
+    → IsVariantWith (chars name') (chars variant') c d → IsVariantWith (chars name) (chars variant) c d
+with_names name variant name' variant' c d first second w =
+    record { enum = w.enum; own = w.own; is = w.is; enum_is = w.enum_is ∙ ap chars first; own_is = w.own_is ∙ ap chars second }
 
 normal_is : (ks : Kinds) (name variant : Text) (c : Content) → enum_normal ks (variant_of name variant c) ≡ variant_of name variant (kept_by ks variant c)
 normal_is ks name variant no_content = refl
@@ -136,7 +144,8 @@ name_there [] i v f = absurd f
 name_there (k ∷ ks) zero v f = same_is (chars k.0) v f
 name_there (k ∷ ks) (suc i) v f = name_there ks i v f.1
 
-module _ (name : List ℕ) (ks : Kinds) (place : ℕ) (k : Kind) (has : HasVariantAt ks place k) (c : VariantData) (d : Data) (i : ℕ) (e : i ≡ place) (at : IsVariantAt name (names_in ks) i c d) where
+module _ (name : List ℕ) (ks : Kinds) (place : ℕ) (k : Kind) (has : HasVariantAt ks place k) (c : VariantData) (d : Data) (i : ℕ) (e : i ≡ place)
+    (at : IsVariantAt name (names_in ks) i c d) where
   here : IsFirst (names_in ks) place at.variant
   here = subst (λ i. IsFirst (names_in ks) i at.variant) e at.first
 
@@ -148,12 +157,16 @@ module _ (name : List ℕ) (ks : Kinds) (place : ℕ) (k : Kind) (has : HasVaria
 
   pub kept_in : (x : Content) → x ≡ keeps k (content_view c) → variant_of (chars name) (chars (name_at ks place)) x ≡ enum_normal ks (data_view d)
   kept_in x h =
-      (λ j. variant_of (chars name) (name_there ks place at.variant here j) ((h ∙ sym (has.kept (content_view c)) ∙ sym (kept_there ks place at.variant (content_view c) here)) j))
+      (λ j. variant_of (chars name) (name_there ks place at.variant here j)
+      ((h ∙ sym (has.kept (content_view c)) ∙ sym (kept_there ks place at.variant (content_view c) here)) j))
       ∙ sym (ap (enum_normal ks) (with_view (chars name) at.variant c d at.is) ∙ normal_is ks (chars name) at.variant (content_view c))
 
 -- data of a struct variant is of its enum's schema
-pub named_variant_is_of : (name : List ℕ) (ks : Kinds) (variant : Text) (names : List (List ℕ)) (ts : List Table) (ds : List plain.Data) → holding_of variant (holdings ks) ≡ Some (fields (named_tables names ts)) → AreNames names ts → EachIsOf ts ds → IsOfOrdered (table_of_enum name ks) (plain.struct_variant_of (chars name) variant (named_fields names ds))
+pub named_variant_is_of : (name : List ℕ) (ks : Kinds) (variant : Text) (names : List (List ℕ)) (ts : List Table) (ds : List plain.Data)
+    → holding_of variant (holdings ks) ≡ Some (fields (named_tables names ts)) → AreNames names ts → EachIsOf ts ds
+    → IsOfOrdered (table_of_enum name ks) (plain.struct_variant_of (chars name) variant (named_fields names ds))
 named_variant_is_of name ks variant names ts ds e are h =
     let tables = tables_named names ts are.as_many in
     subst (λ fs. IsOfOrdered (table_of_enum name ks) (plain.struct_variant_of (chars name) variant fs)) (fields_named names ts ds are.as_many)
-    (struct_variant_is_of (chars name) (holdings ks) variant (named_tables names ts) ds e (λ js. fields_differ names ts js are.differ) (subst (λ us. EachIsOf us ds) (sym tables) h))
+    (struct_variant_is_of (chars name) (holdings ks) variant (named_tables names ts) ds e (λ js. fields_differ names ts js are.differ)
+    (subst (λ us. EachIsOf us ds) (sym tables) h))

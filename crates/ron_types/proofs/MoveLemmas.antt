@@ -1,9 +1,15 @@
 -- Data of a shape is of it still where the table has moved, or has grown behind.
-use Rattle.std.proofs.Common.{◌≡◌, ℕ, ◌+◌, ◌&&◌, cond, List, [], ◌∷◌, ◌++◌, map, length, Option, Some, None, option_map, find, slice_get, refl, sym, ap, subst, ◌∙◌, zero-add}
+use Rattle.std.proofs.Common.{◌≡◌, ℕ, ◌+◌, ◌&&◌, cond, List, [], ◌∷◌, ◌++◌, map, length, Option, Some, None, option_map, find, slice_get, refl, sym, ap, subst}
+use Rattle.std.proofs.Common.{◌∙◌, zero-add}
 use Rattle.std.proofs.lemmas.Option.{slice_get-map}
 use Rattle.ron_spec_words.specs.Characters.{Text}
-use Rattle.ron_spec_grammar.specs.Data.{Data, bool_of, int_of, char_of, str_of, bytes_of, the_unit, the_none, some_of, unit_struct_of, list_of, tuple_of, tuple_struct_of, map_of, newtype_of, struct_of, unit_variant_of, newtype_variant_of, tuple_variant_of, struct_variant_of, value_of, raw_of, Datas, no_datas, data_and, Pairs, no_pairs, pair_and, Fields, no_fields, field_and}
-use Rattle.ron_spec_grammar.specs.Schema.{Field, FieldList, Variant, VariantShape, unit_variant, newtype_variant, tuple_variant, struct_variant, Shape, bool, int, char, str, bytes, unit, optional, unit_struct, seq, tuple, tuple_struct, map as map_, newtype, struct, enum, any_value, any_raw, is_named, is_variant, variant_named, in_order, HasVariant, OfShape, AllOfShape, EachOfShape, PairsOfShape, OfFields}
+use Rattle.ron_spec_grammar.specs.Data.{Data, bool_of, int_of, char_of, str_of, bytes_of, the_unit, the_none, some_of, unit_struct_of, list_of, tuple_of}
+use Rattle.ron_spec_grammar.specs.Data.{tuple_struct_of, map_of, newtype_of, struct_of, unit_variant_of, newtype_variant_of, tuple_variant_of}
+use Rattle.ron_spec_grammar.specs.Data.{struct_variant_of, value_of, raw_of, Datas, no_datas, data_and, Pairs, no_pairs, pair_and, Fields, no_fields, field_and}
+use Rattle.ron_spec_grammar.specs.Schema.{Field, FieldList, Variant, VariantShape, unit_variant, newtype_variant, tuple_variant, struct_variant, Shape, bool}
+use Rattle.ron_spec_grammar.specs.Schema.{int, char, str, bytes, unit, optional, unit_struct, seq, tuple, tuple_struct, map as map_, newtype, struct, enum}
+use Rattle.ron_spec_grammar.specs.Schema.{any_value, any_raw, is_named, is_variant, variant_named, in_order, HasVariant, OfShape, AllOfShape, EachOfShape}
+use Rattle.ron_spec_grammar.specs.Schema.{PairsOfShape, OfFields}
 use Rattle.ron_data_schema.specs.Shapes.{moved, moved_field, moved_list, moved_content, moved_variant}
 use Rattle.ron_data_schema.specs.Table.{Table}
 use Rattle.ron_types.specs.OfTables.{IsOf}
@@ -16,16 +22,21 @@ pub in_order-moved : (n : ℕ) (fields : List Field) (names : List Text) → in_
 in_order-moved n [] [] = refl
 in_order-moved n [] (name ∷ names) = refl
 in_order-moved n (f ∷ fields) [] = ap (λ b. f.may_be_missing && b) (in_order-moved n fields [])
-in_order-moved n (f ∷ fields) (name ∷ names) = λ i. cond (is_named name f) (in_order-moved n fields names i) (f.may_be_missing && in_order-moved n fields (name ∷ names) i)
+in_order-moved n (f ∷ fields) (name ∷ names) =
+    λ i. cond (is_named name f) (in_order-moved n fields names i) (f.may_be_missing && in_order-moved n fields (name ∷ names) i)
 
-pub find-moved : (n : ℕ) (name : Text) (fields : List Field) → find (is_named name) (map (moved_field n) fields) ≡ option_map (moved_field n) (find (is_named name) fields)
+pub find-moved : (n : ℕ) (name : Text) (fields : List Field)
+    → find (is_named name) (map (moved_field n) fields) ≡ option_map (moved_field n) (find (is_named name) fields)
 find-moved n name fields = find-map (is_named name) (is_named name) (moved_field n) (λ f. refl) fields
 
-variant-moved : (n : ℕ) (name : Text) (variants : List Variant) (content : VariantShape) → variant_named name variants ≡ Some content → variant_named name (map (moved_variant n) variants) ≡ Some (moved_content n content)
+variant-moved : (n : ℕ) (name : Text) (variants : List Variant) (content : VariantShape) → variant_named name variants ≡ Some content
+    → variant_named name (map (moved_variant n) variants) ≡ Some (moved_content n content)
 variant-moved n name variants content e =
-    ap (option_map (λ (v : Variant). v.content)) (find-map (is_variant name) (is_variant name) (moved_variant n) (λ v. refl) variants) ∙ go (find (is_variant name) variants) e
+    ap (option_map (λ (v : Variant). v.content)) (find-map (is_variant name) (is_variant name) (moved_variant n) (λ v. refl) variants)
+    ∙ go (find (is_variant name) variants) e
   where
-    go : (o : Option Variant) → option_map (λ v. v.content) o ≡ Some content → option_map (λ v. v.content) (option_map (moved_variant n) o) ≡ Some (moved_content n content)
+    go : (o : Option Variant) → option_map (λ v. v.content) o ≡ Some content
+        → option_map (λ v. v.content) (option_map (moved_variant n) o) ≡ Some (moved_content n content)
     go None k = absurd (cc)
     go (Some v) k = ap (option_map (moved_content n)) k
 
@@ -55,7 +66,8 @@ module _ (n : ℕ) (old new : List Shape) (stands : (i : ℕ) (s : Shape) → sl
     of_shape i (unit_variant_of name v) h = variant_stands i name v unit_variant h
     of_shape i (newtype_variant_of name v d) h = (n + h.0, variant_stands i name v (newtype_variant h.0) h.1, of_shape h.0 d h.2)
     of_shape i (tuple_variant_of name v ds) h = (map (λ j. n + j) h.0, variant_stands i name v (tuple_variant h.0) h.1, each_of_shape h.0 ds h.2)
-    of_shape i (struct_variant_of name v ds) h = (moved_list n h.0, variant_stands i name v (struct_variant h.0) h.1, in_order-moved n h.0.fields _ ∙ h.2, of_fields h.0.fields ds h.3)
+    of_shape i (struct_variant_of name v ds) h =
+        (moved_list n h.0, variant_stands i name v (struct_variant h.0) h.1, in_order-moved n h.0.fields _ ∙ h.2, of_fields h.0.fields ds h.3)
     of_shape i (value_of t) h = (stands i any_value h.0, h.1)
     of_shape i (raw_of t) h = (stands i any_raw h.0, h.1)
 
@@ -81,10 +93,12 @@ module _ (n : ℕ) (old new : List Shape) (stands : (i : ℕ) (s : Shape) → sl
 -- ---- a move by none
 
 moved_field-zero : (f : Field) → moved_field 0 f ≡ f
-moved_field-zero f = let P : ℕ → Field = λ j. record { name = f.name; aliases = f.aliases; shape = j; may_be_missing = f.may_be_missing } in ap P (zero-add f.shape)
+moved_field-zero f = let P : ℕ → Field = λ j. record { name = f.name; aliases = f.aliases; shape = j; may_be_missing = f.may_be_missing } in
+    ap P (zero-add f.shape)
 
 moved_list-zero : (list : FieldList) → moved_list 0 list ≡ list
-moved_list-zero list = let P : List Field → FieldList = λ fields. record { fields = fields; skips_unknown = list.skips_unknown } in ap P (map-same (moved_field 0) moved_field-zero list.fields)
+moved_list-zero list = let P : List Field → FieldList = λ fields. record { fields = fields; skips_unknown = list.skips_unknown } in
+    ap P (map-same (moved_field 0) moved_field-zero list.fields)
 
 indices-zero : (js : List ℕ) → map (λ j. 0 + j) js ≡ js
 indices-zero js = map-same (λ j. 0 + j) zero-add js
@@ -122,7 +136,8 @@ moved-zero any_raw = refl
 pub stands_in_front : (shapes more : List Shape) (i : ℕ) (s : Shape) → slice_get shapes i ≡ Some s → slice_get (shapes ++ more) (0 + i) ≡ Some (moved 0 s)
 stands_in_front shapes more i s at = ap (slice_get (shapes ++ more)) (zero-add i) ∙ (get_front shapes more i s at ∙ ap Some (sym (moved-zero s)))
 
-pub stands_behind : (shapes : List Shape) (t : Table) (i : ℕ) (s : Shape) → slice_get t.shapes i ≡ Some s → slice_get (put shapes t) (length shapes + i) ≡ Some (moved (length shapes) s)
+pub stands_behind : (shapes : List Shape) (t : Table) (i : ℕ) (s : Shape) → slice_get t.shapes i ≡ Some s
+    → slice_get (put shapes t) (length shapes + i) ≡ Some (moved (length shapes) s)
 stands_behind shapes t i s at =
     get_back shapes (map (moved (length shapes)) t.shapes) i ∙ (slice_get-map (moved (length shapes)) t.shapes i ∙ ap (option_map (moved (length shapes))) at)
 

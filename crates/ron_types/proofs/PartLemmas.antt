@@ -28,14 +28,16 @@ added [] (j ∷ js) old new h = absurd h
 added (t ∷ ts) [] old new h = absurd h
 
 -- the table over one part
-pub above_is : (r : Result Schema Error) (f : ℕ → Shape) (t : Table) (j : ℕ) (old new : List Shape) → old ≡ [] → (new ≡ put old t) × (j ≡ root_in old t) → Makes r (topped new (f j)) → Makes r (above f t)
+pub above_is : (r : Result Schema Error) (f : ℕ → Shape) (t : Table) (j : ℕ) (old new : List Shape) → old ≡ [] → (new ≡ put old t) × (j ≡ root_in old t)
+    → Makes r (topped new (f j)) → Makes r (above f t)
 above_is r f t j old new none h made =
     let shapes : new ≡ put [] t = h.0 ∙ ap (λ old. put old t) none in
     let at : j ≡ root_in [] t = h.1 ∙ ap (λ old. root_in old t) none in
     subst (Makes r) (λ i. topped (shapes i) (f (at i))) made
 
 -- that of a map
-pub map_is : (r : Result Schema Error) (k v : Table) (a b : ℕ) (old next new : List Shape) → old ≡ [] → (next ≡ put old k) × (a ≡ root_in old k) → (new ≡ put next v) × (b ≡ root_in next v) → Makes r (topped new (map a b)) → Makes r (map_table k v)
+pub map_is : (r : Result Schema Error) (k v : Table) (a b : ℕ) (old next new : List Shape) → old ≡ [] → (next ≡ put old k) × (a ≡ root_in old k)
+    → (new ≡ put next v) × (b ≡ root_in next v) → Makes r (topped new (map a b)) → Makes r (map_table k v)
 map_is r k v a b old next new none h i made =
     let first : next ≡ put [] k = h.0 ∙ ap (λ old. put old k) none in
     let key : a ≡ root_in [] k = h.1 ∙ ap (λ old. root_in old k) none in

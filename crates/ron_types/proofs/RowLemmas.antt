@@ -1,5 +1,6 @@
 -- What a row's first type does and what the others do, together: for the calls of a row.
-use Rattle.std.proofs.Common.{◌≡◌, ◌<◌, ◌≤◌, ℕ, suc, Bool, true, false, not, ◌||◌, ◌++◌, List, [], ◌∷◌, length, map, chars, nat_lt, refl, sym, ap, subst, ◌∙◌, arith}
+use Rattle.std.proofs.Common.{◌≡◌, ◌<◌, ◌≤◌, ℕ, suc, Bool, true, false, not, ◌||◌, ◌++◌, List, [], ◌∷◌, length, map, chars, nat_lt, refl, sym, ap, subst, ◌∙◌}
+use Rattle.std.proofs.Common.{arith}
 use Rattle.std.specs.List.{list_all, list_any}
 use Rattle.std.proofs.lemmas.Bool.{and_from, and_parts, or_parts, or_right}
 use Rattle.std.proofs.lemmas.List.{append_assoc, append-nil}
@@ -14,19 +15,23 @@ use Rattle.ron_types.specs.Accepts.{IsField}
 use Rattle.ron_types.specs.FieldNames.{Field}
 use Rattle.ron_types.specs.Lists.{Then}
 use Rattle.ron_types.specs.OfTables.{IsOfOrdered, EachIsOf, fields_with}
-use Rattle.ron_types.specs.Rows.{named_tables, named_fields, NamedThen, NoneNamed, AddsItems, AddsFields, PushesItems, PushesFields, AreNames, table_of_struct, struct_data}
+use Rattle.ron_types.specs.Rows.{named_tables, named_fields, NamedThen, NoneNamed, AddsItems, AddsFields, PushesItems, PushesFields, AreNames, table_of_struct}
+use Rattle.ron_types.specs.Rows.{struct_data}
 use Rattle.ron_types.specs.Tables.{put, put_all, root_in, roots_in, fields_at, tables_of, topped, beside, tuple_table, MayTop}
 use Rattle.ron_types.proofs.TypeLemmas.{struct_is_of}
 
 -- ---- schemas
 
-module _ (t : Table) (ts : List Table) (old mid new : List Shape) (root : ℕ) (puts : mid ≡ put old t) (at : root ≡ root_in old t) (less : root < length mid) (wider : length old ≤ length mid) where
+module _ (t : Table) (ts : List Table) (old mid new : List Shape) (root : ℕ) (puts : mid ≡ put old t) (at : root ≡ root_in old t) (less : root < length mid)
+    (wider : length old ≤ length mid) where
   all_shapes : new ≡ put_all mid ts → new ≡ put_all old (t ∷ ts)
   all_shapes h = h ∙ ap (λ shapes. put_all shapes ts) puts
 
 -- from no shapes and no fields on
-pub from_nothing : (names : List (List ℕ)) (ts : List Table) (old : List Shape) (before : List SchemaField) (new : List Shape) (after : List SchemaField) → old ≡ [] → before ≡ [] → AddsFields names ts old before new after → AddsFields names ts [] [] new after
-from_nothing names ts old before new after e k h = subst (λ old. AddsFields names ts old [] new after) e (subst (λ before. AddsFields names ts old before new after) k h)
+pub from_nothing : (names : List (List ℕ)) (ts : List Table) (old : List Shape) (before : List SchemaField) (new : List Shape) (after : List SchemaField)
+    → old ≡ [] → before ≡ [] → AddsFields names ts old before new after → AddsFields names ts [] [] new after
+from_nothing names ts old before new after e k h =
+    subst (λ old. AddsFields names ts old [] new after) e (subst (λ before. AddsFields names ts old before new after) k h)
 
 -- without types, nothing is added
 pub none_added : (names : List (List ℕ)) (old : List Shape) (before : List SchemaField) → AddsFields names [] old before old before
@@ -44,7 +49,8 @@ none_added names old before = record {
 -- ---- data
 
 module _ (P : Data → Type 0) (d : plain.Data) (ds : List plain.Data) where
-  pub items_pushed : (Rest : List Data → Type 0) (old mid new : List Data) (held : Data) → data_view held ≡ d → P held → mid ≡ old ++ held ∷ [] → PushesItems ds Rest mid new → PushesItems (d ∷ ds) (Then P Rest) old new
+  pub items_pushed : (Rest : List Data → Type 0) (old mid new : List Data) (held : Data) → data_view held ≡ d → P held → mid ≡ old ++ held ∷ []
+      → PushesItems ds Rest mid new → PushesItems (d ∷ ds) (Then P Rest) old new
   items_pushed Rest old mid new held is accepted push h = record {
     added = held ∷ h.added;
     items = h.items ∙ ap (λ items. items ++ h.added) push ∙ append_assoc old (held ∷ []) h.added;
@@ -52,7 +58,8 @@ module _ (P : Data → Type 0) (d : plain.Data) (ds : List plain.Data) where
     accepted = (accepted, h.accepted);
   }
 
-  pub fields_pushed : (Rest : List (List ℕ) → List Field → Type 0) (n : List ℕ) (ns : List (List ℕ)) (old mid new : List Field) (held : Field) → named_view held ≡ (chars n, d) → IsField (chars n) P held → mid ≡ old ++ held ∷ []
+  pub fields_pushed : (Rest : List (List ℕ) → List Field → Type 0) (n : List ℕ) (ns : List (List ℕ)) (old mid new : List Field) (held : Field)
+      → named_view held ≡ (chars n, d) → IsField (chars n) P held → mid ≡ old ++ held ∷ []
       → PushesFields ns ds Rest mid new → PushesFields (n ∷ ns) (d ∷ ds) (NamedThen P Rest) old new
   fields_pushed Rest n ns old mid new held is accepted push h = record {
     added = held ∷ h.added;
@@ -91,7 +98,8 @@ tables_named (n ∷ ns) [] h = absurd (omega (arith, h))
 tables_named (n ∷ ns) (t ∷ ts) h = ap (λ us. t ∷ us) (tables_named ns ts (omega (arith, h)))
 
 -- data under the names, either way
-pub fields_named : (names : List (List ℕ)) (ts : List Table) (ds : List plain.Data) → length names ≡ length ts → fields_with (named_tables names ts) ds ≡ named_fields names ds
+pub fields_named : (names : List (List ℕ)) (ts : List Table) (ds : List plain.Data) → length names ≡ length ts
+    → fields_with (named_tables names ts) ds ≡ named_fields names ds
 fields_named [] ts ds h = refl
 fields_named (n ∷ ns) [] ds h = absurd (omega (arith, h))
 fields_named (n ∷ ns) (t ∷ ts) [] h = refl
@@ -105,7 +113,8 @@ as_many_data [] (d ∷ ds) h = absurd h
 as_many_data (t ∷ ts) [] h = absurd h
 
 -- fields of names that differ do: their names are all that they are called
-not_among : (t : Text) (names : List (List ℕ)) (ts : List Table) (js : List ℕ) → holds_text t (map chars names) ≡ false → holds_text t (all_names (fields_at (named_tables names ts) js)) ≡ false
+not_among : (t : Text) (names : List (List ℕ)) (ts : List Table) (js : List ℕ) → holds_text t (map chars names) ≡ false
+    → holds_text t (all_names (fields_at (named_tables names ts) js)) ≡ false
 not_among t [] ts js h = refl
 not_among t (n ∷ ns) [] js h = refl
 not_among t (n ∷ ns) (u ∷ ts) [] h = refl
@@ -113,7 +122,8 @@ not_among t (n ∷ ns) (u ∷ ts) (j ∷ js) h =
     let p = or_parts (same_text (chars n) t) (holds_text t (map chars ns)) h in
     ap (λ b. b || holds_text t (all_names (fields_at (named_tables ns ts) js))) p.0 ∙ not_among t ns ts js p.1
 
-pub fields_differ : (names : List (List ℕ)) (ts : List Table) (js : List ℕ) → all_differ (map chars names) ≡ true → names_differ (fields_at (named_tables names ts) js) ≡ true
+pub fields_differ : (names : List (List ℕ)) (ts : List Table) (js : List ℕ) → all_differ (map chars names) ≡ true
+    → names_differ (fields_at (named_tables names ts) js) ≡ true
 fields_differ [] ts js h = refl
 fields_differ (n ∷ ns) [] js h = refl
 fields_differ (n ∷ ns) (t ∷ ts) [] h = refl
@@ -126,7 +136,8 @@ fields_differ (n ∷ ns) (t ∷ ts) (j ∷ js) h =
     not_true false e = refl
 
 -- fields whose shapes lie among the shapes, and none of which may be missing
-pub fields_in_range : (n : ℕ) (names : List (List ℕ)) (ts : List Table) (js : List ℕ) → list_all (λ j. nat_lt j n) js ≡ true → list_all (λ (f : SchemaField). nat_lt f.shape n) (fields_at (named_tables names ts) js) ≡ true
+pub fields_in_range : (n : ℕ) (names : List (List ℕ)) (ts : List Table) (js : List ℕ) → list_all (λ j. nat_lt j n) js ≡ true
+    → list_all (λ (f : SchemaField). nat_lt f.shape n) (fields_at (named_tables names ts) js) ≡ true
 fields_in_range n [] ts js h = refl
 fields_in_range n (m ∷ ms) [] js h = refl
 fields_in_range n (m ∷ ms) (t ∷ ts) [] h = refl
@@ -134,7 +145,8 @@ fields_in_range n (m ∷ ms) (t ∷ ts) (j ∷ js) h =
     let p = and_parts (nat_lt j n) (list_all (λ j. nat_lt j n) js) h in
     and_from _ _ p.0 (fields_in_range n ms ts js p.1)
 
-pub fields_whole : (names : List (List ℕ)) (ts : List Table) (js : List ℕ) → list_all (λ (f : SchemaField). not f.may_be_missing) (fields_at (named_tables names ts) js) ≡ true
+pub fields_whole : (names : List (List ℕ)) (ts : List Table) (js : List ℕ)
+    → list_all (λ (f : SchemaField). not f.may_be_missing) (fields_at (named_tables names ts) js) ≡ true
 fields_whole [] ts js = refl
 fields_whole (n ∷ ns) [] js = refl
 fields_whole (n ∷ ns) (t ∷ ts) [] = refl
@@ -142,15 +154,19 @@ fields_whole (n ∷ ns) (t ∷ ts) (j ∷ js) = fields_whole ns ts js
 
 module _ (name : List ℕ) (names : List (List ℕ)) (ts : List Table) (are : AreNames names ts) where
   -- the struct of these fields may stand on top of their shapes
-  pub struct_may_top : (shapes : List Shape) (fields : List SchemaField) → AddsFields names ts [] [] shapes fields → MayTop shapes (struct (chars name) (only fields))
+  pub struct_may_top : (shapes : List Shape) (fields : List SchemaField) → AddsFields names ts [] [] shapes fields
+      → MayTop shapes (struct (chars name) (only fields))
   struct_may_top shapes fields h = record {
-    in_range = ap (list_all (λ (f : SchemaField). nat_lt f.shape (length shapes))) h.fields ∙ fields_in_range (length shapes) names ts (roots_in [] ts) h.in_range;
+    in_range =
+        ap (list_all (λ (f : SchemaField). nat_lt f.shape (length shapes))) h.fields ∙ fields_in_range (length shapes) names ts (roots_in [] ts) h.in_range;
     distinct = ap names_differ h.fields ∙ fields_differ names ts (roots_in [] ts) are.differ;
-    whole = or_right (not (list_any (same_text (chars name)) range_names)) _ (ap (list_all (λ (f : SchemaField). not f.may_be_missing)) h.fields ∙ fields_whole names ts (roots_in [] ts));
+    whole = or_right (not (list_any (same_text (chars name)) range_names)) _
+        (ap (list_all (λ (f : SchemaField). not f.may_be_missing)) h.fields ∙ fields_whole names ts (roots_in [] ts));
   }
 
   -- and then the table is the struct's
-  pub struct_topped : (shapes : List Shape) (fields : List SchemaField) → AddsFields names ts [] [] shapes fields → topped shapes (struct (chars name) (only fields)) ≡ table_of_struct name names ts
+  pub struct_topped : (shapes : List Shape) (fields : List SchemaField) → AddsFields names ts [] [] shapes fields
+      → topped shapes (struct (chars name) (only fields)) ≡ table_of_struct name names ts
   struct_topped shapes fields h =
       let tables = tables_named names ts are.as_many in
       (λ i. topped (h.shapes i) (struct (chars name) (only (h.fields i))))
@@ -165,7 +181,8 @@ module _ (name : List ℕ) (names : List (List ℕ)) (ts : List Table) (are : Ar
 
 -- ---- tuples
 
-pub items_from_nothing : (ts : List Table) (old : List Shape) (before : List ℕ) (new : List Shape) (after : List ℕ) → old ≡ [] → before ≡ [] → AddsItems ts old before new after → AddsItems ts [] [] new after
+pub items_from_nothing : (ts : List Table) (old : List Shape) (before : List ℕ) (new : List Shape) (after : List ℕ) → old ≡ [] → before ≡ []
+    → AddsItems ts old before new after → AddsItems ts [] [] new after
 items_from_nothing ts old before new after e k h = subst (λ old. AddsItems ts old [] new after) e (subst (λ before. AddsItems ts old before new after) k h)
 
 pub tuple_may_top : (ts : List Table) (shapes : List Shape) (roots : List ℕ) → AddsItems ts [] [] shapes roots → MayTop shapes (tuple roots)

@@ -22,8 +22,12 @@ use Rattle.ron_types.proofs.ClosedLemmas.{put_closed, closed_of, topped_well_for
 no_fault : (shapes : List plain.Shape) (root : ℕ) (fault : SchemaFault) → is_well_formed shapes root ≡ true → HasFault shapes root fault → ⊥
 no_fault shapes root IndexOutOfRange w h = let q = (and_parts (is_in_range shapes root) _ w).0 in cc
 no_fault shapes root Cycle w h = let q = (and_parts (has_no_cycle shapes) _ (and_parts (is_in_range shapes root) _ w).1).0 in cc (h.1)
-no_fault shapes root DuplicateName w h = let q = (and_parts (list_all has_distinct_names shapes) _ (and_parts (has_no_cycle shapes) _ (and_parts (is_in_range shapes root) _ w).1).1).0 in cc (h.2)
-no_fault shapes root MissingRangeField w h = let q = (and_parts (list_all has_distinct_names shapes) _ (and_parts (has_no_cycle shapes) _ (and_parts (is_in_range shapes root) _ w).1).1).1 in cc (h.3)
+no_fault shapes root DuplicateName w h = let q =
+    (and_parts (list_all has_distinct_names shapes) _ (and_parts (has_no_cycle shapes) _ (and_parts (is_in_range shapes root) _ w).1).1).0 in
+    cc (h.2)
+no_fault shapes root MissingRangeField w h = let q =
+    (and_parts (list_all has_distinct_names shapes) _ (and_parts (has_no_cycle shapes) _ (and_parts (is_in_range shapes root) _ w).1).1).1 in
+    cc (h.3)
 
 refused_memory : (shapes : List plain.Shape) (root : ℕ) (e : Error) → is_well_formed shapes root ≡ true → RefusesTable shapes root e → e ≡ OutOfMemory
 refused_memory shapes root (InvalidSchema fault) w h = absurd (no_fault shapes root fault w h)
@@ -32,13 +36,16 @@ refused_memory shapes root _ w h = absurd h
 
 -- the schema of a well-formed table is the table
 pub made_or_memory : (r : Result Schema Error) (shapes : List plain.Shape) (root : ℕ) → is_well_formed shapes root ≡ true
-    → MatchResult r (λ s. (shapes_of s ≡ shapes) × (root_of s ≡ root)) (RefusesTable shapes root) → MatchResult r (λ s. table_of s ≡ record { shapes = shapes; root = root }) (λ e. e ≡ OutOfMemory)
+    → MatchResult r (λ s. (shapes_of s ≡ shapes) × (root_of s ≡ root)) (RefusesTable shapes root)
+    → MatchResult r (λ s. table_of s ≡ record { shapes = shapes; root = root }) (λ e. e ≡ OutOfMemory)
 made_or_memory (Ok s) shapes root w h = let P : List plain.Shape → ℕ → Table = λ shapes root. record { shapes = shapes; root = root } in λ i. P (h.0 i) (h.1 i)
 made_or_memory (Err e) shapes root w h = refused_memory shapes root e w h
 
 -- a shape that may stand on top of parts
-pub made_on_top : (r : Result Schema Error) (old new : List Shape) (s : Shape) (root : ℕ) → new ≡ old ++ s ∷ [] → root ≡ length old → is_closed (table_view old) ≡ true → MayTop (table_view old) (shape_view s)
-    → MatchResult r (λ t. (shapes_of t ≡ table_view new) × (root_of t ≡ root)) (RefusesTable (table_view new) root) → MatchResult r (λ t. table_of t ≡ topped (table_view old) (shape_view s)) (λ e. e ≡ OutOfMemory)
+pub made_on_top : (r : Result Schema Error) (old new : List Shape) (s : Shape) (root : ℕ) → new ≡ old ++ s ∷ [] → root ≡ length old
+    → is_closed (table_view old) ≡ true → MayTop (table_view old) (shape_view s)
+    → MatchResult r (λ t. (shapes_of t ≡ table_view new) × (root_of t ≡ root)) (RefusesTable (table_view new) root)
+    → MatchResult r (λ t. table_of t ≡ topped (table_view old) (shape_view s)) (λ e. e ≡ OutOfMemory)
 made_on_top r old new s root e k closed top h =
     let P : List plain.Shape → ℕ → Type 0 = λ shapes root. MatchResult r (λ t. (shapes_of t ≡ shapes) × (root_of t ≡ root)) (RefusesTable shapes root) in
     let shapes : table_view new ≡ table_view old ++ shape_view s ∷ [] = ap table_view e ∙ map-append shape_view old (s ∷ []) in
@@ -50,17 +57,21 @@ made_on_top r old new s root e k closed top h =
 
 -- what has become of the shapes: they have the table behind them, or are as they were
 abbrev pub Puts : Result ℕ Error → List Shape → List Shape → Table → Type 0
-Puts r old new t = MatchResult r (λ root. (table_view new ≡ put (table_view old) t) × (root ≡ root_in (table_view old) t)) (λ e. (e ≡ OutOfMemory) × (table_view new ≡ table_view old))
+Puts r old new t = MatchResult r (λ root. (table_view new ≡ put (table_view old) t) × (root ≡ root_in (table_view old) t))
+    (λ e. (e ≡ OutOfMemory) × (table_view new ≡ table_view old))
 
 pub puts_of : (r : Result ℕ Error) (old new : List Shape) (s : Schema) (t : Table) → table_of s ≡ t
-    → MatchResult r (λ root. (table_view new ≡ table_view old ++ map (moved (length old)) (shapes_of s)) × (root ≡ length old + root_of s)) (λ e. (e ≡ OutOfMemory) × (new ≡ old)) → Puts r old new t
+    → MatchResult r (λ root. (table_view new ≡ table_view old ++ map (moved (length old)) (shapes_of s)) × (root ≡ length old + root_of s))
+    (λ e. (e ≡ OutOfMemory) × (new ≡ old)) → Puts r old new t
 puts_of (Ok root) old new s t same h =
     let len : length old ≡ length (table_view old) = sym (length-map old shape_view) in
     (h.0 ∙ (λ i. table_view old ++ map (moved (len i)) (same i).shapes), h.1 ∙ (λ i. len i + (same i).root))
 puts_of (Err e) old new s t same h = (h.0, ap table_view h.1)
 
-pub closed_behind : (r : Result ℕ Error) (old new : List Shape) (s : Schema) → is_closed (table_view old) ≡ true → is_well_formed (shapes_of s) (root_of s) ≡ true
-    → MatchResult r (λ root. (table_view new ≡ table_view old ++ map (moved (length old)) (shapes_of s)) × (root ≡ length old + root_of s)) (λ e. (e ≡ OutOfMemory) × (new ≡ old)) → is_closed (table_view new) ≡ true
+pub closed_behind : (r : Result ℕ Error) (old new : List Shape) (s : Schema) → is_closed (table_view old) ≡ true
+    → is_well_formed (shapes_of s) (root_of s) ≡ true
+    → MatchResult r (λ root. (table_view new ≡ table_view old ++ map (moved (length old)) (shapes_of s)) × (root ≡ length old + root_of s))
+    (λ e. (e ≡ OutOfMemory) × (new ≡ old)) → is_closed (table_view new) ≡ true
 closed_behind r old new s closed w h = by_result r (puts_of r old new s (table_of s) refl h)
   where
     by_result : (r : Result ℕ Error) → Puts r old new (table_of s) → is_closed (table_view new) ≡ true

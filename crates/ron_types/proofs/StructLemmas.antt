@@ -9,10 +9,12 @@ use Rattle.ron_types.specs.Accepts.{IsStruct}
 use Rattle.ron_types.specs.FieldNames.{Field}
 use Rattle.ron_types.proofs.BackLemmas.{view-Struct}
 
-pub accepts-Struct : (name : Text) (P : List Field → Type 0) (found : String Global) (fields : Vec Field Global) → chars (string_bytes found) ≡ name → P fields.items → IsStruct name P (held.Struct found fields)
+pub accepts-Struct : (name : Text) (P : List Field → Type 0) (found : String Global) (fields : Vec Field Global) → chars (string_bytes found) ≡ name
+    → P fields.items → IsStruct name P (held.Struct found fields)
 accepts-Struct name P found fields e h = search (rules, the_lemmas)
 
-from-Struct : (name : Text) (P : List Field → Type 0) (found : String Global) (fields : Vec Field Global) → IsStruct name P (held.Struct found fields) → P fields.items
+from-Struct : (name : Text) (P : List Field → Type 0) (found : String Global) (fields : Vec Field Global) → IsStruct name P (held.Struct found fields)
+    → P fields.items
 from-Struct name P found fields h = search (rules, the_lemmas)
 
 module _ (name : Text) (d : Data) (found : String Global) (fields : Vec Field Global) (is : d ≡ held.Struct found fields) where

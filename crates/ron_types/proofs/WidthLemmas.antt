@@ -1,10 +1,12 @@
 -- What it tells of a value that it is shared: the numbers in it lie in their widths.
--- An integer that lies in memory fits its type. So `Known` of the kit is put together for a value from that of what it holds; a value in it stands one level less deep.
+-- An integer that lies in memory fits its type. So `Known` of the kit is put together for a value from that of what it holds; a value in it stands one level
+-- less deep.
 use mir.Syntax.{w8, w16, w32, w64, w128, Lifetime}
 use mir.Val.{Val}
 use base.Fml.{Lft}
 use denote.Enum.Declared as data_of
-use denote.Known.{Says, Says-map, Says-second, Says-hidden, says_so, Known, All, nothing_known, uint_known, sint_known, enum_known, struct_known, declared_enum_known, declared_known, holder_known, LiveFacts, Knownss}
+use denote.Known.{Says, Says-map, Says-second, Says-hidden, says_so, Known, All, nothing_known, uint_known, sint_known, enum_known, struct_known}
+use denote.Known.{declared_enum_known, declared_known, holder_known, LiveFacts, Knownss}
 use denote.Ref.{Bor, ShrRef}
 use denote.Struct.Declared as record_of
 use denote.Struct.Tuple as tuple
@@ -93,7 +95,8 @@ module _ (P : Tree → Type 0) (owned : IsOwned P) (shared : IsShared P) where
   map_known = struct_known (record_of.shape MapRow.the_type) (the_facts _ Heap ghosts pair_known (nothing_known Heap), tt)
 
   abbrev box_known : Known (BoxRow.the_row ValueRow.the_hole Heap ghosts)
-  box_known = holder_known ValueRow.the_hole inner (BoxRow.struct ValueRow.the_hole Heap ghosts) (BoxRow.the_codes _ _ ValueRow.the_hole.coded Heap.coded) (λ d. d.ptr) (λ d. d.value) _
+  box_known = holder_known ValueRow.the_hole inner (BoxRow.struct ValueRow.the_hole Heap ghosts) (BoxRow.the_codes _ _ ValueRow.the_hole.coded Heap.coded)
+      (λ d. d.ptr) (λ d. d.value) _
 
   abbrev option_known : Known (OptionRow.the_row (BoxRow.the_row ValueRow.the_hole Heap ghosts))
   option_known = declared_enum_known (OptionRow.the_type (BoxRow.the_row ValueRow.the_hole Heap ghosts)) (tt, ((box_known, tt), tt))
@@ -143,7 +146,8 @@ module _ (P : Tree → Type 0) (owned : IsOwned P) (shared : IsShared P) where
   from_choice (inr (inr (inr (inr (inr (inl v)))))) h = subst (inside P) (sym (tree_of-String v.0)) tt
   from_choice (inr (inr (inr (inr (inr (inr (inl v))))))) h = subst (inside P) (sym (tree_of-Bytes v.0)) tt
   from_choice (inr (inr (inr (inr (inr (inr (inr (inl v)))))))) h = list_says v.0 h.0
-  from_choice (inr (inr (inr (inr (inr (inr (inr (inr (inl v))))))))) h = let e : tree_of value.Unit ≡ tree.unit = search (rules, value.the_lemmas) in subst (inside P) (sym e) tt
+  from_choice (inr (inr (inr (inr (inr (inr (inr (inr (inl v))))))))) h = let e : tree_of value.Unit ≡ tree.unit = search (rules, value.the_lemmas) in
+      subst (inside P) (sym e) tt
   from_choice (inr (inr (inr (inr (inr (inr (inr (inr (inr z))))))))) h = absurd z
 
   from_parts : (v : Value) → PartsSay (ValueRow.as_values v) → inside P (tree_of v)
@@ -176,5 +180,6 @@ numbers_said v b o κ = let n = size (tree_of v) in
     Says-map _ (all_in_width (tree_of v) (suc n) (omega arith)) (row_shared (to_depth n) (both_to n).0 (both_to n).1 v b o κ)
 
 -- the same of a reference to it
-pub numbers_learnt : (ℓ : Lifetime) (κ : Lft) (x : Bor Value) (vs : List Val) → Says ((ShrRef ℓ κ ValueRow.the_row).own_val x vs) (HasNumbersInWidth (tree_of x.now))
+pub numbers_learnt : (ℓ : Lifetime) (κ : Lft) (x : Bor Value) (vs : List Val)
+    → Says ((ShrRef ℓ κ ValueRow.the_row).own_val x vs) (HasNumbersInWidth (tree_of x.now))
 numbers_learnt ℓ κ x vs = Says-second _ _ (Says-hidden _ (numbers_said x.now x.ref_ptr.0 x.ref_ptr.1 κ))

@@ -1,7 +1,8 @@
 -- How types refuse data.
 use Rattle.std.specs.Prelude.{◌≡◌, ◌⊎◌, ℕ, List, ◌++◌, codes, string_bytes}
 use Rattle.ron_base.specs.declared.error.Error.{Error}
-use Rattle.ron_base.specs.declared.error.Error.TheVariants.{OutOfMemory, InvalidValueForType, ExpectedDifferentLength, ExpectedDifferentStructName, MissingStructField, NoSuchEnumVariant}
+use Rattle.ron_base.specs.declared.error.Error.TheVariants.{OutOfMemory, InvalidValueForType, ExpectedDifferentLength, ExpectedDifferentStructName}
+use Rattle.ron_base.specs.declared.error.Error.TheVariants.{MissingStructField, NoSuchEnumVariant}
 use Rattle.ron_base.specs.Escape.{quoted}
 use Rattle.ron_lex_text.specs.declared.parsed.ParsedStr.TheVariants.{Allocated}
 use Rattle.ron_data.specs.declared.data.Data.{Data}
@@ -20,7 +21,8 @@ IsRefusal _ = ⊥
 -- A text that is not borrowed: a string where a borrowed one is wanted, which the error quotes. Or there is no memory.
 abbrev pub TellsNotBorrowed : List ℕ → Error → Type 0
 TellsNotBorrowed bytes OutOfMemory = Unit {0}
-TellsNotBorrowed bytes (InvalidValueForType expected found) = (string_bytes expected ≡ codes "a borrowed string") × (string_bytes found ≡ codes "the string " ++ quoted bytes)
+TellsNotBorrowed bytes (InvalidValueForType expected found) =
+    (string_bytes expected ≡ codes "a borrowed string") × (string_bytes found ≡ codes "the string " ++ quoted bytes)
 TellsNotBorrowed bytes _ = ⊥
 
 -- the error that refuses data where a borrowed text is wanted tells of a text that is not

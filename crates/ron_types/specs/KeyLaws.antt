@@ -19,12 +19,14 @@ unsigned_alike x y = sym (unsigned_cmp x y)
 pub texts_alike : (x y : List ℕ) → slice_cmp nat_cmp x y ≡ slice_cmp nat_cmp (bytes_of_text (text_of_bytes x)) (bytes_of_text (text_of_bytes y))
 texts_alike x y = λ i. slice_cmp nat_cmp (sym (bytes_back x) i) (sym (bytes_back y) i)
 
-pub strings_alike : (x y : String Global) → slice_cmp nat_cmp (string_bytes x) (string_bytes y) ≡ slice_cmp nat_cmp (bytes_of_text (chars (string_bytes x))) (bytes_of_text (chars (string_bytes y)))
+pub strings_alike : (x y : String Global)
+    → slice_cmp nat_cmp (string_bytes x) (string_bytes y) ≡ slice_cmp nat_cmp (bytes_of_text (chars (string_bytes x))) (bytes_of_text (chars (string_bytes y)))
 strings_alike x y = λ i. slice_cmp nat_cmp (sym (string_back x) i) (sym (string_back y) i)
 
 -- ---- keys that hold keys
 
-module _ {K : Type 0} (cmp : K → K → Ordering) (data_of : K → Data) (key_cmp : Data → Data → Ordering) (alike : (x y : K) → cmp x y ≡ key_cmp (data_of x) (data_of y)) where
+module _ {K : Type 0} (cmp : K → K → Ordering) (data_of : K → Data) (key_cmp : Data → Data → Ordering)
+    (alike : (x y : K) → cmp x y ≡ key_cmp (data_of x) (data_of y)) where
   pub options_alike : (p q : Option K) → option_cmp cmp p q ≡ option_cmp key_cmp (content_in (option_data data_of p)) (content_in (option_data data_of q))
   options_alike None None = refl
   options_alike None (Some y) = refl

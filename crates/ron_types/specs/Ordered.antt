@@ -1,7 +1,8 @@
 -- Data whose values without a schema have their maps in order.
 use Rattle.std.specs.Prelude.{⊤}
 use Rattle.ron_value.specs.Ordered.{IsOrdered}
-use Rattle.ron_spec_grammar.specs.Data.{Data, some_of, list_of, tuple_of, tuple_struct_of, map_of, newtype_of, struct_of, newtype_variant_of, tuple_variant_of, struct_variant_of, value_of, Datas, no_datas, data_and, Pairs, no_pairs, pair_and, Fields, no_fields, field_and}
+use Rattle.ron_spec_grammar.specs.Data.{Data, some_of, list_of, tuple_of, tuple_struct_of, map_of, newtype_of, struct_of, newtype_variant_of, tuple_variant_of}
+use Rattle.ron_spec_grammar.specs.Data.{struct_variant_of, value_of, Datas, no_datas, data_and, Pairs, no_pairs, pair_and, Fields, no_fields, field_and}
 
 -- In each value without a schema that stands in the data, the keys of each map ascend. Only changes of a map that put in unordered ones can make it otherwise.
 abbrev mutual

@@ -2,7 +2,8 @@
 use Rattle.std.specs.Prelude.{◌≡◌, ℕ, Bool, true, false, List, [], ◌∷◌, chars}
 use Rattle.std.proofs.Common.{refl, sym, ap, ◌∙◌, true≢false}
 use Rattle.ron_spec_words.specs.Characters.{Text}
-use Rattle.ron_spec_grammar.specs.Data.{Data, struct_of, the_unit, unit_variant_of, newtype_variant_of, tuple_variant_of, struct_variant_of, Datas, no_datas, datas, Fields, no_fields, field_and}
+use Rattle.ron_spec_grammar.specs.Data.{Data, struct_of, the_unit, unit_variant_of, newtype_variant_of, tuple_variant_of, struct_variant_of, Datas, no_datas}
+use Rattle.ron_spec_grammar.specs.Data.{datas, Fields, no_fields, field_and}
 use Rattle.ron_data.specs.Datum.{Content, no_content, one_of, items_of, named_of, variant_of}
 use Rattle.ron_types.specs.Kinds.{variant_data}
 use Rattle.ron_types.specs.Keys as keys
@@ -36,7 +37,8 @@ fields_in (struct_of name fs) = fs
 fields_in _ = no_fields
 
 -- structs, by the data of their fields
-pub structs_tell : {T : Type 0} (name : List ℕ) (names : List (List ℕ)) (x y : T) (fields : T → List Data) → struct_data name names (fields x) ≡ struct_data name names (fields y) → AreEqualNamed names (fields x) (fields y)
+pub structs_tell : {T : Type 0} (name : List ℕ) (names : List (List ℕ)) (x y : T) (fields : T → List Data)
+    → struct_data name names (fields x) ≡ struct_data name names (fields y) → AreEqualNamed names (fields x) (fields y)
 structs_tell name names x y fields e = fields_tell names (fields x) (fields y) (ap fields_in e)
 
 -- ---- what variants hold
@@ -56,10 +58,12 @@ named_in _ = no_fields
 pub newtype_variants_tell : (name v : List ℕ) (d e : Data) → variant_data name v (one_of d) ≡ variant_data name v (one_of e) → d ≡ e
 newtype_variants_tell name v d e same = ap one_in same
 
-pub tuple_variants_tell : (name v : List ℕ) (ds es : List Data) → variant_data name v (items_of (datas ds)) ≡ variant_data name v (items_of (datas es)) → AreEqual ds es
+pub tuple_variants_tell : (name v : List ℕ) (ds es : List Data) → variant_data name v (items_of (datas ds)) ≡ variant_data name v (items_of (datas es))
+    → AreEqual ds es
 tuple_variants_tell name v ds es same = equal_lists ds es (sym (items_back ds) ∙ ap (λ d. keys.items_of (row_in d)) same ∙ items_back es)
 
-pub struct_variants_tell : (name v : List ℕ) (names : List (List ℕ)) (ds es : List Data) → variant_data name v (named_of (named_fields names ds)) ≡ variant_data name v (named_of (named_fields names es)) → AreEqualNamed names ds es
+pub struct_variants_tell : (name v : List ℕ) (names : List (List ℕ)) (ds es : List Data)
+    → variant_data name v (named_of (named_fields names ds)) ≡ variant_data name v (named_of (named_fields names es)) → AreEqualNamed names ds es
 struct_variants_tell name v names ds es same = fields_tell names ds es (ap named_in same)
 
 -- ---- variants that differ

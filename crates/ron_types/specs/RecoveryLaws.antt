@@ -14,7 +14,8 @@ use Rattle.ron_value_number.specs.declared.width.Width.{Width}
 use Rattle.ron_value.specs.Tree.{Tree}
 use Rattle.ron_value.specs.Order.{tree_cmp}
 use Rattle.ron_value.specs.OrderLaws.{tree_cmp_total}
-use Rattle.ron_spec_grammar.specs.Data.{Data, bool_of, char_of, int_of, str_of, the_unit, some_of, tuple_of, map_of, value_of, raw_of, datas, Pairs, no_pairs, pair_and}
+use Rattle.ron_spec_grammar.specs.Data.{Data, bool_of, char_of, int_of, str_of, the_unit, some_of, tuple_of, map_of, value_of, raw_of, datas, Pairs, no_pairs}
+use Rattle.ron_spec_grammar.specs.Data.{pair_and}
 use Rattle.ron_data.specs.Datum.{pairs_of}
 use Rattle.ron_de_raw.specs.declared.raw.RawValue.{RawValue}
 use Rattle.ron_de_raw.specs.Raw.{raw_bytes, raw_text_of}
@@ -122,7 +123,8 @@ module _ {T : Type 0} (f : T → Data) (equal : T → T → Bool) (recover : Rec
 -- ---- maps
 
 -- keys that compare as their data do are told by them
-keys_recover : {K : Type 0} (cmp : K → K → Ordering) (equal : K → K → Bool) (f : K → Data) (key_cmp : Data → Data → Ordering) → ((x y : K) → cmp x y ≡ key_cmp (f x) (f y)) → IsTotalOrder cmp → ((x y : K) → equal x y ≡ eq_by_cmp cmp x y) → Recovers f equal
+keys_recover : {K : Type 0} (cmp : K → K → Ordering) (equal : K → K → Bool) (f : K → Data) (key_cmp : Data → Data → Ordering)
+    → ((x y : K) → cmp x y ≡ key_cmp (f x) (f y)) → IsTotalOrder cmp → ((x y : K) → equal x y ≡ eq_by_cmp cmp x y) → Recovers f equal
 keys_recover cmp equal f key_cmp alike total ties x y e =
     ties x y ∙ ap is_eq (alike x y ∙ ap (key_cmp (f x)) (sym e) ∙ sym (alike x x) ∙ tied_itself total x)
 
@@ -138,8 +140,10 @@ pairs_back : (es : List (Data × Data)) → pairs_in (pairs_of es) ≡ es
 pairs_back [] = refl
 pairs_back (e ∷ es) = ap (λ fs. e ∷ fs) (pairs_back es)
 
-module _ {K V : Type 0} (cmp : K → K → Ordering) (equal_keys : K → K → Bool) (f : K → Data) (key_cmp : Data → Data → Ordering) (alike : (x y : K) → cmp x y ≡ key_cmp (f x) (f y)) (total : IsTotalOrder cmp) (ties : (x y : K) → equal_keys x y ≡ eq_by_cmp cmp x y) where
-  pub maps_recover : (g : V → Data) (equal : V → V → Bool) → Recovers g equal → Recovers (map_data f g) (pointwise (λ (d e : K × V). equal_keys d.0 e.0 && equal d.1 e.1))
+module _ {K V : Type 0} (cmp : K → K → Ordering) (equal_keys : K → K → Bool) (f : K → Data) (key_cmp : Data → Data → Ordering)
+    (alike : (x y : K) → cmp x y ≡ key_cmp (f x) (f y)) (total : IsTotalOrder cmp) (ties : (x y : K) → equal_keys x y ≡ eq_by_cmp cmp x y) where
+  pub maps_recover : (g : V → Data) (equal : V → V → Bool) → Recovers g equal
+      → Recovers (map_data f g) (pointwise (λ (d e : K × V). equal_keys d.0 e.0 && equal d.1 e.1))
   maps_recover g equal recover xs ys e =
       each_recovers (λ (d : K × V). (f d.0, g d.1)) (λ d e. equal_keys d.0 e.0 && equal d.1 e.1)
       (λ d e same. λ i. keys_recover cmp equal_keys f key_cmp alike total ties d.0 e.0 (ap (λ p. p.0) same) i && recover d.1 e.1 (ap (λ p. p.1) same) i)

@@ -76,7 +76,8 @@ pub record AddsItems (ts : List Table) (old : List schema.Shape) (before : List 
   pub grown : length old ≤ length new
 
 -- the same, with the fields of these names
-pub record AddsFields (names : List (List ℕ)) (ts : List Table) (old : List schema.Shape) (before : List schema.Field) (new : List schema.Shape) (after : List schema.Field) : Type 0 where
+pub record AddsFields (names : List (List ℕ)) (ts : List Table) (old : List schema.Shape) (before : List schema.Field) (new : List schema.Shape)
+    (after : List schema.Field) : Type 0 where
   pub shapes : new ≡ put_all old ts
   pub fields : after ≡ before ++ fields_at (named_tables names ts) (roots_in old ts)
   pub in_range : list_all (λ j. nat_lt j (length new)) (roots_in old ts) ≡ true

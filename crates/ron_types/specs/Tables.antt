@@ -2,7 +2,8 @@
 use Rattle.std.specs.Prelude.{◌≡◌, ℕ, ◌+◌, Bool, true, ◌&&◌, List, [], ◌∷◌, ◌++◌, length, map}
 use Rattle.std.specs.List.{list_all}
 use Rattle.ron_spec_words.specs.Characters.{Text}
-use Rattle.ron_spec_grammar.specs.Schema.{Shape, optional, seq, tuple, struct, enum, Field, field, only, VariantShape, unit_variant, newtype_variant, tuple_variant, struct_variant, Variant, holds_below, has_no_cycle, has_distinct_names, has_whole_range}
+use Rattle.ron_spec_grammar.specs.Schema.{Shape, optional, seq, tuple, struct, enum, Field, field, only, VariantShape, unit_variant, newtype_variant}
+use Rattle.ron_spec_grammar.specs.Schema.{tuple_variant, struct_variant, Variant, holds_below, has_no_cycle, has_distinct_names, has_whole_range}
 use Rattle.ron_spec_grammar.specs.Schema as plain
 use Rattle.ron_data_schema.specs.Shapes.{moved}
 use Rattle.ron_data_schema.specs.Table.{Table}
@@ -109,11 +110,14 @@ enum_table name variants = topped (put_variants [] variants) (enum name (variant
 
 -- ---- which shapes may stand at the end of a table
 
--- Shapes that are well formed with any of them as the root: each index that one of them holds lies among them, options and newtypes form no cycle, no name stands twice, and no field of a range struct may be missing.
+-- Shapes that are well formed with any of them as the root: each index that one of them holds lies among them, options and newtypes form no cycle, no name
+-- stands twice, and no field of a range struct may be missing.
 abbrev pub is_closed : List Shape → Bool
-is_closed shapes = list_all (holds_below (length shapes)) shapes && (has_no_cycle shapes && (list_all has_distinct_names shapes && list_all has_whole_range shapes))
+is_closed shapes =
+    list_all (holds_below (length shapes)) shapes && (has_no_cycle shapes && (list_all has_distinct_names shapes && list_all has_whole_range shapes))
 
--- The shape may stand behind these: each index that it holds lies among them, no name stands twice in it, and if it is a range struct, no field of it may be missing.
+-- The shape may stand behind these: each index that it holds lies among them, no name stands twice in it, and if it is a range struct, no field of it may be
+-- missing.
 pub record MayTop (shapes : List Shape) (s : Shape) : Type 0 where
   pub in_range : holds_below (length shapes) s ≡ true
   pub distinct : has_distinct_names s ≡ true

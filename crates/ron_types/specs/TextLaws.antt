@@ -1,5 +1,6 @@
 -- Bytes and the text that they are.
-use Rattle.std.specs.Prelude.{◌≡◌, ℕ, ◌+◌, ◌-◌, ◌≤◌, Bool, true, false, cond, ◌&&◌, nat_lt, List, [], ◌∷◌, map, chars, encode_utf8_all, IsUtf8, String, string_bytes}
+use Rattle.std.specs.Prelude.{◌≡◌, ℕ, ◌+◌, ◌-◌, ◌≤◌, Bool, true, false, cond, ◌&&◌, nat_lt, List, [], ◌∷◌, map, chars, encode_utf8_all, IsUtf8, String}
+use Rattle.std.specs.Prelude.{string_bytes}
 use Rattle.std.proofs.Common.{refl, sym, ap, ◌∙◌, arith}
 use Rattle.std.proofs.lemmas.Bool.Decides.{nat_tests}
 use Rattle.std.proofs.lemmas.Str.{encodes-chars, scalars-chars, is_utf8-from_IsUtf8, IsUtf8-from_is_utf8, IsUtf8-string_bytes}
@@ -25,7 +26,8 @@ none_scalar b bs = grind (arith, nat_tests)
 behind_back : (bs : List ℕ) → bytes_of_text (map (λ b. behind_characters + b) bs) ≡ bs
 behind_back [] = refl
 behind_back (b ∷ bs) = let cs = map (λ b. behind_characters + b) bs in
-    ap (λ t. cond t (encode_utf8_all ((behind_characters + b) ∷ cs)) (map (λ c. c - behind_characters) ((behind_characters + b) ∷ cs))) (none_scalar b cs) ∙ taken_back (b ∷ bs)
+    ap (λ t. cond t (encode_utf8_all ((behind_characters + b) ∷ cs)) (map (λ c. c - behind_characters) ((behind_characters + b) ∷ cs))) (none_scalar b cs)
+    ∙ taken_back (b ∷ bs)
 
 -- the bytes of the text that bytes are
 pub bytes_back : (bs : List ℕ) → bytes_of_text (text_of_bytes bs) ≡ bs

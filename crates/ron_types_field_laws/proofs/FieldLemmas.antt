@@ -33,7 +33,8 @@ none_spelled = record { formed = tt; accepted = go }
     go [] (f ∷ fs) h = absurd h
     go (n ∷ ns) fs h = absurd h
 
-pub more_spelled : (p : Part) (ps : List Part) (P : Option Data → Type 0) (Rest : List Name → List Field → Type 0) → AcceptsField p P → AcceptsSpelled ps Rest → AcceptsSpelled (p ∷ ps) (SpelledThen P Rest)
+pub more_spelled : (p : Part) (ps : List Part) (P : Option Data → Type 0) (Rest : List Name → List Field → Type 0) → AcceptsField p P → AcceptsSpelled ps Rest
+    → AcceptsSpelled (p ∷ ps) (SpelledThen P Rest)
 more_spelled p ps P Rest first rest = record { formed = (first.formed, rest.formed); accepted = go }
   where
     go : (names : List Name) (fs : List Field) → AreSpelled names (p ∷ ps) fs → SpelledThen P Rest names fs

@@ -1,5 +1,6 @@
 -- Structs of fields accept all data of their schemas where the fields do.
-use Rattle.std.proofs.Common.{◌≡◌, ℕ, Bool, true, false, ◌&&◌, cond, List, [], ◌∷◌, ◌++◌, length, Some, None, find, slice_get, chars, string_bytes, refl, sym, ap, subst, ◌∙◌, arith, rules}
+use Rattle.std.proofs.Common.{◌≡◌, ℕ, Bool, true, false, ◌&&◌, cond, List, [], ◌∷◌, ◌++◌, length, Some, None, find, slice_get, chars, string_bytes, refl, sym}
+use Rattle.std.proofs.Common.{ap, subst, ◌∙◌, arith, rules}
 use Rattle.std.proofs.lemmas.Bool.{and_parts}
 use Rattle.ron_spec_words.specs.Runs.{same_text}
 use Rattle.ron_spec_grammar.specs.Data as plain
@@ -37,7 +38,8 @@ each_formed [] h = tt
 each_formed (p ∷ ps) h = (h.0, each_formed ps h.1)
 
 -- data of one of them is of its table
-of_first : (shapes : List Shape) (t : Table) (ts : List Table) (more : List Shape) → IsFormed t → (d : plain.Data) → OfShape (put_all (put shapes t) ts ++ more) (root_in shapes t) d → IsOf t d
+of_first : (shapes : List Shape) (t : Table) (ts : List Table) (more : List Shape) → IsFormed t → (d : plain.Data)
+    → OfShape (put_all (put shapes t) ts ++ more) (root_in shapes t) d → IsOf t d
 of_first shapes t ts more formed d h =
     let b = behind (put shapes t) ts more in
     of_part shapes t b.0 formed d (subst (λ all. OfShape all (root_in shapes t) d) b.1 h)
@@ -56,7 +58,8 @@ module _ (all rest : List schema.Field) (n : Name) (shapes : List Shape) (p : Pa
   first = field_of n (root_in shapes p.0) p.1
 
   -- the first field has the name
-  called : (f : Field) (fs : List Field) → same_text (chars (string_bytes f.0)) (own n) ≡ true → find (is_named (own n)) all ≡ Some first → in_order (first ∷ rest) (names_of (fields_view (f ∷ fs))) ≡ true → OfFields whole all (fields_view (f ∷ fs)) → Turns all rest whole n p (f ∷ fs)
+  called : (f : Field) (fs : List Field) → same_text (chars (string_bytes f.0)) (own n) ≡ true → find (is_named (own n)) all ≡ Some first
+      → in_order (first ∷ rest) (names_of (fields_view (f ∷ fs))) ≡ true → OfFields whole all (fields_view (f ∷ fs)) → Turns all rest whole n p (f ∷ fs)
   called f fs e finds order h =
       let names = names_of (fields_view fs) in
       let same : chars (string_bytes f.0) ≡ own n = same_is (chars (string_bytes f.0)) (own n) e in
@@ -75,7 +78,8 @@ module _ (all rest : List schema.Field) (n : Name) (shapes : List Shape) (p : Pa
       }
 
   -- it has another name: the field of this one is left out
-  other : (f : Field) (fs : List Field) → same_text (chars (string_bytes f.0)) (own n) ≡ false → in_order (first ∷ rest) (names_of (fields_view (f ∷ fs))) ≡ true → OfFields whole all (fields_view (f ∷ fs)) → Turns all rest whole n p (f ∷ fs)
+  other : (f : Field) (fs : List Field) → same_text (chars (string_bytes f.0)) (own n) ≡ false
+      → in_order (first ∷ rest) (names_of (fields_view (f ∷ fs))) ≡ true → OfFields whole all (fields_view (f ∷ fs)) → Turns all rest whole n p (f ∷ fs)
   other f fs e order h =
       let names = names_of (fields_view fs) in
       let named = other_sym (chars (string_bytes f.0)) (own n) e in
@@ -89,7 +93,8 @@ module _ (all rest : List schema.Field) (n : Name) (shapes : List Shape) (p : Pa
         of = subst (λ (gs : List Field). OfFields whole all (fields_view gs)) (sym behind_is) h;
       }
 
-  pub turn : find (is_named (own n)) all ≡ Some first → (fs : List Field) → in_order (first ∷ rest) (names_of (fields_view fs)) ≡ true → OfFields whole all (fields_view fs) → Turns all rest whole n p fs
+  pub turn : find (is_named (own n)) all ≡ Some first → (fs : List Field) → in_order (first ∷ rest) (names_of (fields_view fs)) ≡ true
+      → OfFields whole all (fields_view fs) → Turns all rest whole n p fs
   turn finds [] order h = let q = and_parts p.1 (in_order rest []) order in record { spelled = q.0; order = q.1; of = h }
   turn finds (f ∷ fs) order h = go (same_text (chars (string_bytes f.0)) (own n)) refl
     where
@@ -97,9 +102,11 @@ module _ (all rest : List schema.Field) (n : Name) (shapes : List Shape) (p : Pa
       go true e = called f fs e finds order h
       go false e = other f fs e order h
 
-pub spelled_parts : (all : List schema.Field) (more : List Shape) (names : List Name) (shapes : List Shape) (ps : List Part) → length names ≡ length ps → AreFormed ps
+pub spelled_parts : (all : List schema.Field) (more : List Shape) (names : List Name) (shapes : List Shape) (ps : List Part) → length names ≡ length ps
+    → AreFormed ps
     → Each (λ (f : schema.Field). find (is_named f.name) all ≡ Some f) (fields_at names ps (roots_in shapes (tables_of ps)))
-    → (fs : List Field) → in_order (fields_at names ps (roots_in shapes (tables_of ps))) (names_of (fields_view fs)) ≡ true → OfFields (put_all shapes (tables_of ps) ++ more) all (fields_view fs) → AreSpelled names ps fs
+    → (fs : List Field) → in_order (fields_at names ps (roots_in shapes (tables_of ps))) (names_of (fields_view fs)) ≡ true
+    → OfFields (put_all shapes (tables_of ps) ++ more) all (fields_view fs) → AreSpelled names ps fs
 spelled_parts all more [] shapes [] many formed found [] order h = tt
 spelled_parts all more [] shapes [] many formed found (f ∷ fs) order h = absurd (cc)
 spelled_parts all more [] shapes (p ∷ ps) many formed found fs order h = absurd (omega (arith, many))
@@ -108,7 +115,8 @@ spelled_parts all more (n ∷ ns) shapes (p ∷ ps) many formed found fs order h
     let t = turn all (fields_at ns ps (roots_in (put shapes p.0) (tables_of ps))) n shapes p ps more formed.0 found.0 fs order h in
     (t.spelled, spelled_parts all more ns (put shapes p.0) ps (omega (arith, many)) formed.1 found.1 (behind_of (own n) fs) t.order t.of)
 
-module _ (name : List ℕ) (names : List Name) (ps : List Part) (skips : Bool) (P : List Name → List Field → Type 0) (may : MayBeFields name names ps) (every : AcceptsSpelled ps P) where
+module _ (name : List ℕ) (names : List Name) (ps : List Part) (skips : Bool) (P : List Name → List Field → Type 0) (may : MayBeFields name names ps)
+    (every : AcceptsSpelled ps P) where
   abbrev all_fields : List schema.Field
   all_fields = fields_at names ps (roots_in [] (tables_of ps))
 
@@ -122,12 +130,18 @@ module _ (name : List ℕ) (names : List Name) (ps : List Part) (skips : Bool) (
   table = table_of_fields name names ps skips
 
   adds_fields : AddsFields names ps [] [] (put_all [] (tables_of ps)) all_fields
-  adds_fields = record { shapes = refl; fields = refl; in_range = all_within [] (tables_of ps) (each_formed ps every.formed) (length (put_all [] (tables_of ps))) (omega arith); grown = omega arith }
+  adds_fields = record {
+    shapes = refl;
+    fields = refl;
+    in_range = all_within [] (tables_of ps) (each_formed ps every.formed) (length (put_all [] (tables_of ps))) (omega arith);
+    grown = omega arith;
+  }
 
   names_apart' : all_differ (schema.all_names all_fields) ≡ true
   names_apart' = ap all_differ (called_at names ps (roots_in [] (tables_of ps)) (many_in name names ps skips may [])) ∙ may.differ
 
-  struct_accepts : (d : Data) (o : Data-F Data VariantData) → out-Data d ≡ o → struct (chars name) (only []) ≡ outline_in o → IsOf table (seen o) → IsOfFields name names P d
+  struct_accepts : (d : Data) (o : Data-F Data VariantData) → out-Data d ≡ o → struct (chars name) (only []) ≡ outline_in o → IsOf table (seen o)
+      → IsOfFields name names P d
   struct_accepts d (Data-F.Data::Struct found fields) at e h =
       let k = subst (λ fs. IsOf table (plain.struct_of (chars (string_bytes found)) fs)) (in_turn fields.items) h in
       let last : slice_get table.shapes (length (put_all [] (tables_of ps))) ≡ Some top = get_last (put_all [] (tables_of ps)) top in
@@ -143,5 +157,6 @@ module _ (name : List ℕ) (names : List Name) (ps : List Part) (skips : Bool) (
 
   pub structs : AcceptsAll table (IsOfFields name names P)
   structs =
-      let formed = topped_well_formed (put_all [] (tables_of ps)) top (all_closed [] (tables_of ps) refl (each_formed ps every.formed)) (fields_may_top name names ps skips may (put_all [] (tables_of ps)) all_fields adds_fields) in
+      let formed = topped_well_formed (put_all [] (tables_of ps)) top (all_closed [] (tables_of ps) refl (each_formed ps every.formed))
+      (fields_may_top name names ps skips may (put_all [] (tables_of ps)) all_fields adds_fields) in
       whole_accepts table top (IsOfFields name names P) formed (get_last (put_all [] (tables_of ps)) top) struct_accepts

@@ -27,8 +27,10 @@ abbrev row_in : Data → Datas
 row_in (tuple_struct_of name ds) = ds
 row_in _ = no_datas
 
-pub tuple_structs_tell : {T : Type 0} (name : List ℕ) (x y : T) (items : T → List Data) → data_of_tuple_struct name (items x) ≡ data_of_tuple_struct name (items y) → AreEqual (items x) (items y)
-tuple_structs_tell name x y items same = equal_lists (items x) (items y) (sym (items_back (items x)) ∙ ap (λ d. items_of (row_in d)) same ∙ items_back (items y))
+pub tuple_structs_tell : {T : Type 0} (name : List ℕ) (x y : T) (items : T → List Data)
+    → data_of_tuple_struct name (items x) ≡ data_of_tuple_struct name (items y) → AreEqual (items x) (items y)
+tuple_structs_tell name x y items same =
+    equal_lists (items x) (items y) (sym (items_back (items x)) ∙ ap (λ d. items_of (row_in d)) same ∙ items_back (items y))
 
 -- ---- fields that may be left out
 
@@ -39,7 +41,8 @@ AreEqualSpelled (n ∷ ns) [] es = Unit {0}
 AreEqualSpelled (n ∷ ns) (d ∷ ds) [] = Unit {0}
 AreEqualSpelled (n ∷ ns) (d ∷ ds) (e ∷ es) = (d ≡ e) × AreEqualSpelled ns ds es
 
-spelled_tell : (names : List Name) (ds es : List (Option Data)) → own_differ names ≡ true → spelled_fields names ds ≡ spelled_fields names es → AreEqualSpelled names ds es
+spelled_tell : (names : List Name) (ds es : List (Option Data)) → own_differ names ≡ true → spelled_fields names ds ≡ spelled_fields names es
+    → AreEqualSpelled names ds es
 spelled_tell [] ds es h same = tt
 spelled_tell (n ∷ ns) [] es h same = tt
 spelled_tell (n ∷ ns) (d ∷ ds) [] h same = tt
@@ -47,7 +50,8 @@ spelled_tell (n ∷ ns) (d ∷ ds) (e ∷ es) h same =
     let one = other_first (own n) ns ds (first_differs n ns h) in
     let other = other_first (own n) ns es (first_differs n ns h) in (
       sym (front-spelled (own n) d (spelled_fields ns ds) one) ∙ ap (front (own n)) same ∙ front-spelled (own n) e (spelled_fields ns es) other,
-      spelled_tell ns ds es (others_differ n ns h) (sym (behind-spelled (own n) d (spelled_fields ns ds) one) ∙ ap (behind (own n)) same ∙ behind-spelled (own n) e (spelled_fields ns es) other),
+      spelled_tell ns ds es (others_differ n ns h)
+          (sym (behind-spelled (own n) d (spelled_fields ns ds) one) ∙ ap (behind (own n)) same ∙ behind-spelled (own n) e (spelled_fields ns es) other),
     )
 
 abbrev fields_in : Data → Fields
@@ -55,7 +59,8 @@ fields_in (struct_of name fs) = fs
 fields_in _ = no_fields
 
 -- structs of names that differ, by what stands under each
-pub fields_tell : {T : Type 0} (name : List ℕ) (names : List Name) → own_differ names ≡ true → (x y : T) (spelled : T → List (Option Data)) → data_of_fields name names (spelled x) ≡ data_of_fields name names (spelled y) → AreEqualSpelled names (spelled x) (spelled y)
+pub fields_tell : {T : Type 0} (name : List ℕ) (names : List Name) → own_differ names ≡ true → (x y : T) (spelled : T → List (Option Data))
+    → data_of_fields name names (spelled x) ≡ data_of_fields name names (spelled y) → AreEqualSpelled names (spelled x) (spelled y)
 fields_tell name names differ x y spelled same = spelled_tell names (spelled x) (spelled y) differ (ap fields_in same)
 
 -- ---- what stands under a name
@@ -73,7 +78,8 @@ is_there None = false
 is_there (Some d) = true
 
 -- a field that may be left out
-pub left_out_recovers : {T : Type 0} (f : T → Data) (equal : T → T → Bool) → Recovers f equal → (x y : Option T) → option_map f x ≡ option_map f y → option_eq equal x y ≡ true
+pub left_out_recovers : {T : Type 0} (f : T → Data) (equal : T → T → Bool) → Recovers f equal → (x y : Option T) → option_map f x ≡ option_map f y
+    → option_eq equal x y ≡ true
 left_out_recovers f equal recover None None same = refl
 left_out_recovers f equal recover None (Some y) same = absurd (true≢false (sym (ap is_there same)))
 left_out_recovers f equal recover (Some x) None same = absurd (true≢false (ap is_there same))

@@ -15,22 +15,27 @@ use Rattle.ron_types_fields.specs.NamedStructs.{table_of_newtype, table_of_tuple
 
 -- ---- one level of data of code
 
-view-Newtype : (found : String Global) (b : Box Data Global) → data_view (held.Newtype found b) ≡ plain.newtype_of (chars (string_bytes found)) (data_view b.value)
+view-Newtype : (found : String Global) (b : Box Data Global)
+    → data_view (held.Newtype found b) ≡ plain.newtype_of (chars (string_bytes found)) (data_view b.value)
 view-Newtype found b = search (rules, the_lemmas)
 
-view-TupleStruct : (found : String Global) (v : Vec Data Global) → data_view (held.TupleStruct found v) ≡ plain.tuple_struct_of (chars (string_bytes found)) (items_view v.items)
+view-TupleStruct : (found : String Global) (v : Vec Data Global)
+    → data_view (held.TupleStruct found v) ≡ plain.tuple_struct_of (chars (string_bytes found)) (items_view v.items)
 view-TupleStruct found v = search (rules, the_lemmas)
 
-accepts-Newtype : (name : List ℕ) (P : Data → Type 0) (found : String Global) (b : Box Data Global) → chars (string_bytes found) ≡ chars name → P b.value → IsNewtypeOf name P (held.Newtype found b)
+accepts-Newtype : (name : List ℕ) (P : Data → Type 0) (found : String Global) (b : Box Data Global) → chars (string_bytes found) ≡ chars name → P b.value
+    → IsNewtypeOf name P (held.Newtype found b)
 accepts-Newtype name P found b e h = search (rules, the_lemmas)
 
 from-Newtype : (name : List ℕ) (P : Data → Type 0) (found : String Global) (b : Box Data Global) → IsNewtypeOf name P (held.Newtype found b) → P b.value
 from-Newtype name P found b h = search (rules, the_lemmas)
 
-accepts-TupleStruct : (name : List ℕ) (P : List Data → Type 0) (found : String Global) (v : Vec Data Global) → chars (string_bytes found) ≡ chars name → P v.items → IsTupleStructOf name P (held.TupleStruct found v)
+accepts-TupleStruct : (name : List ℕ) (P : List Data → Type 0) (found : String Global) (v : Vec Data Global) → chars (string_bytes found) ≡ chars name
+    → P v.items → IsTupleStructOf name P (held.TupleStruct found v)
 accepts-TupleStruct name P found v e h = search (rules, the_lemmas)
 
-from-TupleStruct : (name : List ℕ) (P : List Data → Type 0) (found : String Global) (v : Vec Data Global) → IsTupleStructOf name P (held.TupleStruct found v) → P v.items
+from-TupleStruct : (name : List ℕ) (P : List Data → Type 0) (found : String Global) (v : Vec Data Global) → IsTupleStructOf name P (held.TupleStruct found v)
+    → P v.items
 from-TupleStruct name P found v h = search (rules, the_lemmas)
 
 module _ (name : List ℕ) (d : Data) (found : String Global) (b : Box Data Global) (is : d ≡ held.Newtype found b) where
@@ -60,7 +65,8 @@ newtype_is_of name t d h o =
     let s : Shape = newtype (chars name) (root_in [] t) in
     (root_in [] t, get_last (put [] t) s, of_grown (put [] t) (s ∷ []) (root_in [] t) d (of_put [] t d (h o)))
 
-pub tuple_struct_is_of : (name : List ℕ) (ts : List Table) (ds : List plain.Data) → EachIsOf ts ds → IsOfOrdered (table_of_tuple_struct name ts) (data_of_tuple_struct name ds)
+pub tuple_struct_is_of : (name : List ℕ) (ts : List Table) (ds : List plain.Data) → EachIsOf ts ds
+    → IsOfOrdered (table_of_tuple_struct name ts) (data_of_tuple_struct name ds)
 tuple_struct_is_of name ts ds h o =
     let s : Shape = tuple_struct (chars name) (roots_in [] ts) in
     (roots_in [] ts, get_last (put_all [] ts) s, each_grown (put_all [] ts) (s ∷ []) (roots_in [] ts) (plain.datas ds) (each_put [] ts ds h o))

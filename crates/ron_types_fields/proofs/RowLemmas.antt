@@ -1,5 +1,6 @@
 -- What a row's first field does and what the others do, together: for the calls of a row.
-use Rattle.std.proofs.Common.{◌≡◌, ◌<◌, ◌≤◌, ℕ, Bool, true, false, not, ◌++◌, List, [], ◌∷◌, length, map, nat_lt, Option, Some, None, chars, string_bytes, refl, sym, ap, subst, ◌∙◌, arith}
+use Rattle.std.proofs.Common.{◌≡◌, ◌<◌, ◌≤◌, ℕ, Bool, true, false, not, ◌++◌, List, [], ◌∷◌, length, map, nat_lt, Option, Some, None, chars, string_bytes, refl}
+use Rattle.std.proofs.Common.{sym, ap, subst, ◌∙◌, arith}
 use Rattle.std.specs.List.{list_all}
 use Rattle.std.proofs.lemmas.Bool.{and_from, and_parts}
 use Rattle.std.proofs.lemmas.List.{append_assoc, append-nil}
@@ -31,8 +32,10 @@ others_differ n ns h = (and_parts (not (holds_text (own n) (map own ns))) (own_d
 -- ---- schemas
 
 -- from no shapes and no fields on
-pub from_nothing : (names : List Name) (ps : List Part) (old : List Shape) (before : List SchemaField) (new : List Shape) (after : List SchemaField) → old ≡ [] → before ≡ [] → AddsFields names ps old before new after → AddsFields names ps [] [] new after
-from_nothing names ps old before new after e k h = subst (λ old. AddsFields names ps old [] new after) e (subst (λ before. AddsFields names ps old before new after) k h)
+pub from_nothing : (names : List Name) (ps : List Part) (old : List Shape) (before : List SchemaField) (new : List Shape) (after : List SchemaField) → old ≡ []
+    → before ≡ [] → AddsFields names ps old before new after → AddsFields names ps [] [] new after
+from_nothing names ps old before new after e k h =
+    subst (λ old. AddsFields names ps old [] new after) e (subst (λ before. AddsFields names ps old before new after) k h)
 
 -- without types, nothing is added
 pub none_added : (names : List Name) (old : List Shape) (before : List SchemaField) → AddsFields names [] old before old before
@@ -48,8 +51,10 @@ none_added names old before = record {
     nothing (n ∷ ns) = refl
 
 -- one field, and then the others
-pub field_added : (t : Table) (missing : Bool) (ps : List Part) (n : Name) (ns : List Name) (old mid new : List Shape) (before middle after : List SchemaField) (root : ℕ) (f : SchemaField)
-    → (mid ≡ put old t) × (root ≡ root_in old t) → root < length mid → length old ≤ length mid → f ≡ field_of n root missing → middle ≡ before ++ f ∷ [] → AddsFields ns ps mid middle new after → AddsFields (n ∷ ns) ((t, missing) ∷ ps) old before new after
+pub field_added : (t : Table) (missing : Bool) (ps : List Part) (n : Name) (ns : List Name) (old mid new : List Shape) (before middle after : List SchemaField)
+    (root : ℕ) (f : SchemaField)
+    → (mid ≡ put old t) × (root ≡ root_in old t) → root < length mid → length old ≤ length mid → f ≡ field_of n root missing → middle ≡ before ++ f ∷ []
+    → AddsFields ns ps mid middle new after → AddsFields (n ∷ ns) ((t, missing) ∷ ps) old before new after
 field_added t missing ps n ns old mid new before middle after root f puts less wider is push h =
     let ts = tables_of ps in
     let g = field_of n (root_in old t) missing in
@@ -58,9 +63,11 @@ field_added t missing ps n ns old mid new before middle after root f puts less w
     let within : root_in old t < length new = omega (arith, less, h.grown, puts.1) in
     record {
       shapes = h.shapes ∙ ap (λ shapes. put_all shapes ts) puts.0;
-      fields = h.fields ∙ ap (λ (fs : List SchemaField). fs ++ fields_at ns ps (roots_in mid ts)) push ∙ ap (λ (shapes : List Shape). (before ++ f ∷ []) ++ fields_at ns ps (roots_in shapes ts)) puts.0
+      fields = h.fields ∙ ap (λ (fs : List SchemaField). fs ++ fields_at ns ps (roots_in mid ts)) push
+          ∙ ap (λ (shapes : List Shape). (before ++ f ∷ []) ++ fields_at ns ps (roots_in shapes ts)) puts.0
           ∙ append_assoc before (f ∷ []) rest ∙ ap (λ (g : SchemaField). before ++ g ∷ rest) is_first;
-      in_range = and_from _ _ (lt-ltb (root_in old t) (length new) within) (ap (λ (shapes : List Shape). list_all (λ j. nat_lt j (length new)) (roots_in shapes ts)) (sym puts.0) ∙ h.in_range);
+      in_range = and_from _ _ (lt-ltb (root_in old t) (length new) within)
+          (ap (λ (shapes : List Shape). list_all (λ j. nat_lt j (length new)) (roots_in shapes ts)) (sym puts.0) ∙ h.in_range);
       grown = omega (arith, wider, h.grown);
     }
 
@@ -104,17 +111,21 @@ module _ (P : Option Data → Type 0) (Rest : List Name → List Field → Type 
   }
 
   -- a field that is there, and those behind it
-  pub put_in : (d : plain.Data) (old mid new : List Field) (held : Field) → chars (string_bytes held.0) ≡ own n → data_view held.1 ≡ d → P (Some held.1) → mid ≡ old ++ held ∷ [] → PushesFields ns ds Rest mid new → PushesFields (n ∷ ns) (Some d ∷ ds) (SpelledThen P Rest) old new
+  pub put_in : (d : plain.Data) (old mid new : List Field) (held : Field) → chars (string_bytes held.0) ≡ own n → data_view held.1 ≡ d → P (Some held.1)
+      → mid ≡ old ++ held ∷ [] → PushesFields ns ds Rest mid new → PushesFields (n ∷ ns) (Some d ∷ ds) (SpelledThen P Rest) old new
   put_in d old mid new held called is accepted push h = record {
     added = held ∷ h.added;
     fields = h.fields ∙ ap (λ fields. fields ++ h.added) push ∙ append_assoc old (held ∷ []) h.added;
     value = λ i. plain.field_and (called i) (is i) (h.value i);
-    accepted = λ many differ.
-        (subst P (sym (front-called (own n) held h.added called)) accepted, subst (Rest ns) (sym (behind-called (own n) held h.added called)) (h.accepted (one_less (Some d) many) (others_differ n ns differ)));
+    accepted = λ many differ. (
+      subst P (sym (front-called (own n) held h.added called)) accepted,
+      subst (Rest ns) (sym (behind-called (own n) held h.added called)) (h.accepted (one_less (Some d) many) (others_differ n ns differ)),
+    );
   }
 
 -- what is kept of each field is kept of all
-pub kept_then : (f : Option plain.Data → Option plain.Data) (fs : List (Option plain.Data → Option plain.Data)) (n : Name) (ns : List Name) (d : Option plain.Data) (ds : List (Option plain.Data))
+pub kept_then : (f : Option plain.Data → Option plain.Data) (fs : List (Option plain.Data → Option plain.Data)) (n : Name) (ns : List Name)
+    (d : Option plain.Data) (ds : List (Option plain.Data))
     → f d ≡ d → (own_differ ns ≡ true → spelled_normal ns fs (spelled_fields ns ds) ≡ spelled_fields ns ds)
     → own_differ (n ∷ ns) ≡ true → spelled_normal (n ∷ ns) (f ∷ fs) (spelled_fields (n ∷ ns) (d ∷ ds)) ≡ spelled_fields (n ∷ ns) (d ∷ ds)
 kept_then f fs n ns d ds own_kept rest differ =

@@ -58,7 +58,8 @@ EitherPart First Others e = First e ⊎ Others e
 -- ---- what the calls of a row do
 
 -- Behind the old shapes stand those of the parts now, and behind the old fields those of these names; each shape lies among the shapes.
-pub record AddsFields (names : List Name) (parts : List Part) (old : List schema.Shape) (before : List schema.Field) (new : List schema.Shape) (after : List schema.Field) : Type 0 where
+pub record AddsFields (names : List Name) (parts : List Part) (old : List schema.Shape) (before : List schema.Field) (new : List schema.Shape)
+    (after : List schema.Field) : Type 0 where
   pub shapes : new ≡ put_all old (tables_of parts)
   pub fields : after ≡ before ++ fields_at names parts (roots_in old (tables_of parts))
   pub in_range : list_all (λ j. nat_lt j (length new)) (roots_in old (tables_of parts)) ≡ true

@@ -42,7 +42,8 @@ is_raw d (Data-F.Raw r) at e = let is : d ≡ held.Raw r = search (rules, the_le
 is_raw d o at e = absurd (cc)
 
 -- a leaf whose data has one outline
-leaf_accepts : (s : Shape) (P : Data → Type 0) → is_well_formed (s ∷ []) 0 ≡ true → ((d : Data) (o : Data-F Data VariantData) → out-Data d ≡ o → outline s ≡ outline_in o → P d) → AcceptsAll (leaf s) P
+leaf_accepts : (s : Shape) (P : Data → Type 0) → is_well_formed (s ∷ []) 0 ≡ true
+    → ((d : Data) (o : Data-F Data VariantData) → out-Data d ≡ o → outline s ≡ outline_in o → P d) → AcceptsAll (leaf s) P
 leaf_accepts s P formed step = whole_accepts (leaf s) s P formed refl (λ d o at e h. step d o at e)
 
 pub booleans : AcceptsAll (leaf bool) IsBool

@@ -1,13 +1,19 @@
 -- Data of a shape that has moved is of it where it stood before: the converse of `MoveLemmas` of `ron_types`.
-use Rattle.std.proofs.Common.{◌≡◌, ℕ, ◌+◌, ◌-◌, true, nat_lt, List, [], ◌∷◌, map, length, Option, Some, None, option_map, find, slice_get, get_or, refl, sym, ap, subst, ◌∙◌, arith}
+use Rattle.std.proofs.Common.{◌≡◌, ℕ, ◌+◌, ◌-◌, true, nat_lt, List, [], ◌∷◌, map, length, Option, Some, None, option_map, find, slice_get, get_or, refl, sym}
+use Rattle.std.proofs.Common.{ap, subst, ◌∙◌, arith}
 use Rattle.std.specs.List.{list_all}
 use Rattle.std.proofs.lemmas.Bool.{and_parts}
 use Rattle.std.proofs.lemmas.Simd.{map-map}
 use Rattle.std.proofs.lemmas.Option.{slice_get-get_or}
 use borrow.Author.Tests.{ltb-true}
 use Rattle.ron_spec_words.specs.Characters.{Text}
-use Rattle.ron_spec_grammar.specs.Data.{Data, bool_of, int_of, char_of, str_of, bytes_of, the_unit, the_none, some_of, unit_struct_of, list_of, tuple_of, tuple_struct_of, map_of, newtype_of, struct_of, unit_variant_of, newtype_variant_of, tuple_variant_of, struct_variant_of, value_of, raw_of, Datas, no_datas, data_and, Pairs, no_pairs, pair_and, Fields, no_fields, field_and}
-use Rattle.ron_spec_grammar.specs.Schema.{Field, FieldList, Variant, VariantShape, unit_variant, newtype_variant, tuple_variant, struct_variant, Shape, bool, int, char, str, bytes, unit, optional, unit_struct, seq, tuple, tuple_struct, map as map_, newtype, struct, enum, any_value, any_raw, is_named, is_variant, variant_below, holds_below, names_of, in_order, HasVariant, OfShape, AllOfShape, EachOfShape, PairsOfShape, OfFields}
+use Rattle.ron_spec_grammar.specs.Data.{Data, bool_of, int_of, char_of, str_of, bytes_of, the_unit, the_none, some_of, unit_struct_of, list_of, tuple_of}
+use Rattle.ron_spec_grammar.specs.Data.{tuple_struct_of, map_of, newtype_of, struct_of, unit_variant_of, newtype_variant_of, tuple_variant_of}
+use Rattle.ron_spec_grammar.specs.Data.{struct_variant_of, value_of, raw_of, Datas, no_datas, data_and, Pairs, no_pairs, pair_and, Fields, no_fields, field_and}
+use Rattle.ron_spec_grammar.specs.Schema.{Field, FieldList, Variant, VariantShape, unit_variant, newtype_variant, tuple_variant, struct_variant, Shape, bool}
+use Rattle.ron_spec_grammar.specs.Schema.{int, char, str, bytes, unit, optional, unit_struct, seq, tuple, tuple_struct, map as map_, newtype, struct, enum}
+use Rattle.ron_spec_grammar.specs.Schema.{any_value, any_raw, is_named, is_variant, variant_below, holds_below, names_of, in_order, HasVariant, OfShape}
+use Rattle.ron_spec_grammar.specs.Schema.{AllOfShape, EachOfShape, PairsOfShape, OfFields}
 use Rattle.ron_spec_grammar.proofs.Finding.{all_get, find_in}
 use Rattle.ron_data_schema.specs.Shapes.{moved, moved_field, moved_list, moved_content, moved_variant}
 use Rattle.ron_types.proofs.ListLemmas.{find-map, map-same}
@@ -54,10 +60,12 @@ module _ (n : ℕ) where
   indices-back = map-back (λ j. n + j) (λ j. j - n) index-back
 
   field-back : (f : Field) → back_field n (moved_field n f) ≡ f
-  field-back f = let P : ℕ → Field = λ j. record { name = f.name; aliases = f.aliases; shape = j; may_be_missing = f.may_be_missing } in ap P (index-back f.shape)
+  field-back f = let P : ℕ → Field = λ j. record { name = f.name; aliases = f.aliases; shape = j; may_be_missing = f.may_be_missing } in
+      ap P (index-back f.shape)
 
   list-back : (list : FieldList) → back_list n (moved_list n list) ≡ list
-  list-back list = let P : List Field → FieldList = λ fields. record { fields = fields; skips_unknown = list.skips_unknown } in ap P (map-back (moved_field n) (back_field n) field-back list.fields)
+  list-back list = let P : List Field → FieldList = λ fields. record { fields = fields; skips_unknown = list.skips_unknown } in
+      ap P (map-back (moved_field n) (back_field n) field-back list.fields)
 
   content-back : (c : VariantShape) → back_content n (moved_content n c) ≡ c
   content-back unit_variant = refl
@@ -89,7 +97,8 @@ module _ (n : ℕ) where
 
 -- ---- a table whose shapes stand moved in another, and hold no index beyond its end
 
-module _ (n : ℕ) (old new : List Shape) (stands : (i : ℕ) (s : Shape) → slice_get old i ≡ Some s → slice_get new (n + i) ≡ Some (moved n s)) (below : list_all (holds_below (length old)) old ≡ true) where
+module _ (n : ℕ) (old new : List Shape) (stands : (i : ℕ) (s : Shape) → slice_get old i ≡ Some s → slice_get new (n + i) ≡ Some (moved n s))
+    (below : list_all (holds_below (length old)) old ≡ true) where
   abbrev IsBelow : ℕ → Type 0
   IsBelow i = nat_lt i (length old) ≡ true
 
@@ -100,7 +109,8 @@ module _ (n : ℕ) (old new : List Shape) (stands : (i : ℕ) (s : Shape) → sl
   FieldsBelow fields = list_all (λ (f : Field). nat_lt f.shape (length old)) fields ≡ true
 
   -- what stands in the other is a shape of the table, moved
-  there : (i : ℕ) → IsBelow i → (s : Shape) → slice_get new (n + i) ≡ Some s → (slice_get old i ≡ Some (back n s)) × (moved n (back n s) ≡ s) × (holds_below (length old) (back n s) ≡ true)
+  there : (i : ℕ) → IsBelow i → (s : Shape) → slice_get new (n + i) ≡ Some s
+      → (slice_get old i ≡ Some (back n s)) × (moved n (back n s) ≡ s) × (holds_below (length old) (back n s) ≡ true)
   there i less s at =
       let s' : Shape = get_or old i s in
       let e : slice_get old i ≡ Some s' = slice_get-get_or old i s (ltb-true i (length old) less) in
@@ -111,27 +121,36 @@ module _ (n : ℕ) (old new : List Shape) (stands : (i : ℕ) (s : Shape) → sl
 
   -- so is what a variant of an enum holds
   variant_there : (i : ℕ) → IsBelow i → (name v : Text) (content : VariantShape) → HasVariant new (n + i) name v content
-      → HasVariant old i name v (back_content n content) × (moved_content n (back_content n content) ≡ content) × (variant_below (length old) (back_content n content) ≡ true)
+      → HasVariant old i name v (back_content n content) × (moved_content n (back_content n content) ≡ content)
+      × (variant_below (length old) (back_content n content) ≡ true)
   variant_there i less name v content h =
       let t = there i less (enum name h.0) h.1 in
       let all : map (moved_variant n) (map (back_variant n) h.0) ≡ h.0 = cc in
-      let found = ap (option_map (λ (w : Variant). w.content)) (sym (find-map (is_variant v) (is_variant v) (moved_variant n) (λ w. refl) (map (back_variant n) h.0)) ∙ ap (find (is_variant v)) all) ∙ h.2 in
+      let found = ap (option_map (λ (w : Variant). w.content))
+      (sym (find-map (is_variant v) (is_variant v) (moved_variant n) (λ w. refl) (map (back_variant n) h.0)) ∙ ap (find (is_variant v)) all) ∙ h.2 in
       go (map (back_variant n) h.0) t.0 t.2 (find (is_variant v) (map (back_variant n) h.0)) refl found
     where
-      go : (us : List Variant) → slice_get old i ≡ Some (enum name us) → list_all (λ (w : Variant). variant_below (length old) w.content) us ≡ true → (o : Option Variant) → find (is_variant v) us ≡ o
+      go : (us : List Variant) → slice_get old i ≡ Some (enum name us) → list_all (λ (w : Variant). variant_below (length old) w.content) us ≡ true
+          → (o : Option Variant) → find (is_variant v) us ≡ o
           → option_map (λ (w : Variant). w.content) (option_map (moved_variant n) o) ≡ Some content
-          → HasVariant old i name v (back_content n content) × (moved_content n (back_content n content) ≡ content) × (variant_below (length old) (back_content n content) ≡ true)
+          → HasVariant old i name v (back_content n content) × (moved_content n (back_content n content) ≡ content)
+          × (variant_below (length old) (back_content n content) ≡ true)
       go us at all None e k = absurd (cc)
       go us at all (Some w) e k =
           let same : moved_content n w.content ≡ content = cc in
-          let is : w.content ≡ back_content n content = sym (content-back n w.content) ∙ ap (back_content n) same in
-          ((us, at, ap (option_map (λ (w : Variant). w.content)) e ∙ ap Some is), ap (moved_content n) (sym is) ∙ same, ap (variant_below (length old)) (sym is) ∙ find_in (is_variant v) (λ (w : Variant). variant_below (length old) w.content) us w e all)
+          let is : w.content ≡ back_content n content = sym (content-back n w.content) ∙ ap (back_content n) same in (
+            (us, at, ap (option_map (λ (w : Variant). w.content)) e ∙ ap Some is),
+            ap (moved_content n) (sym is) ∙ same,
+            ap (variant_below (length old)) (sym is) ∙ find_in (is_variant v) (λ (w : Variant). variant_below (length old) w.content) us w e all,
+          )
 
   -- and a field that is found
-  field_there : (fields : List Field) (name : Text) (g : Field) → find (is_named name) (map (moved_field n) fields) ≡ Some g → (f : Field) × (find (is_named name) fields ≡ Some f) × (g ≡ moved_field n f)
+  field_there : (fields : List Field) (name : Text) (g : Field) → find (is_named name) (map (moved_field n) fields) ≡ Some g
+      → (f : Field) × (find (is_named name) fields ≡ Some f) × (g ≡ moved_field n f)
   field_there fields name g e = go (find (is_named name) fields) refl (sym (find-moved n name fields) ∙ e)
     where
-      go : (o : Option Field) → find (is_named name) fields ≡ o → option_map (moved_field n) o ≡ Some g → (f : Field) × (find (is_named name) fields ≡ Some f) × (g ≡ moved_field n f)
+      go : (o : Option Field) → find (is_named name) fields ≡ o → option_map (moved_field n) o ≡ Some g
+          → (f : Field) × (find (is_named name) fields ≡ Some f) × (g ≡ moved_field n f)
       go None at k = absurd (cc)
       go (Some f) at k = (f, at, cc)
 
@@ -167,8 +186,12 @@ module _ (n : ℕ) (old new : List Shape) (stands : (i : ℕ) (s : Shape) → sl
         let t = there i l (map_ h.0 h.1) h.2 in
         let b = and_parts (nat_lt (h.0 - n) (length old)) (nat_lt (h.1 - n) (length old)) t.2 in
         let e : h.0 ≡ n + (h.0 - n) = cc in
-        let f : h.1 ≡ n + (h.1 - n) = cc in
-        (h.0 - n, h.1 - n, t.0, from_pairs (h.0 - n) (h.1 - n) b.0 b.1 ps (subst (λ k. PairsOfShape new k (n + (h.1 - n)) ps) e (subst (λ v. PairsOfShape new h.0 v ps) f h.3)))
+        let f : h.1 ≡ n + (h.1 - n) = cc in (
+          h.0 - n,
+          h.1 - n,
+          t.0,
+          from_pairs (h.0 - n) (h.1 - n) b.0 b.1 ps (subst (λ k. PairsOfShape new k (n + (h.1 - n)) ps) e (subst (λ v. PairsOfShape new h.0 v ps) f h.3)),
+        )
     from_shape i l (newtype_of name d) h =
         let t = there i l (newtype name h.0) h.1 in
         let e : h.0 ≡ n + (h.0 - n) = cc in
@@ -208,7 +231,8 @@ module _ (n : ℕ) (old new : List Shape) (stands : (i : ℕ) (s : Shape) → sl
 
     from_each : (js : List ℕ) → AreBelow js → (ds : Datas) → EachOfShape new (map (λ j. n + j) js) ds → EachOfShape old js ds
     from_each [] l no_datas h = tt
-    from_each (j ∷ js) l (data_and d ds) h = let b = and_parts (nat_lt j (length old)) (list_all (λ j. nat_lt j (length old)) js) l in (from_shape j b.0 d h.0, from_each js b.1 ds h.1)
+    from_each (j ∷ js) l (data_and d ds) h = let b = and_parts (nat_lt j (length old)) (list_all (λ j. nat_lt j (length old)) js) l in
+        (from_shape j b.0 d h.0, from_each js b.1 ds h.1)
     from_each [] l (data_and d ds) h = absurd h
     from_each (j ∷ js) l no_datas h = absurd h
 

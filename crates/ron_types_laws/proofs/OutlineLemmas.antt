@@ -1,7 +1,8 @@
 -- Data of a shape has the shape's outline: for the types that accept data by its case alone.
 use Rattle.std.proofs.Common.{◌≡◌, ℕ, List, [], Some, None, slice_get, chars, string_bytes, refl, ap, subst, ◌∙◌}
 use Rattle.ron_spec_grammar.specs.Data as plain
-use Rattle.ron_spec_grammar.specs.Schema.{Shape, bool, int, char, str, bytes, unit, optional, unit_struct, seq, tuple, tuple_struct, map, newtype, struct, enum, any_value, any_raw, only, OfShape}
+use Rattle.ron_spec_grammar.specs.Schema.{Shape, bool, int, char, str, bytes, unit, optional, unit_struct, seq, tuple, tuple_struct, map, newtype, struct, enum}
+use Rattle.ron_spec_grammar.specs.Schema.{any_value, any_raw, only, OfShape}
 use Rattle.ron_value_number.specs.Number.{number_width}
 use Rattle.ron_data.specs.declared.data.Data.{Data, out-Data}
 use Rattle.ron_data.specs.declared.data.Data.TheOpen.{Data-F}

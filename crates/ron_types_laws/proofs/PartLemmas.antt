@@ -5,7 +5,8 @@ use Rattle.std.proofs.lemmas.List.{append_assoc}
 use Rattle.std.proofs.lemmas.Bool.{and_parts, and_from}
 use borrow.Author.Tests.{ltb-true, lt-ltb}
 use Rattle.ron_spec_grammar.specs.Data as plain
-use Rattle.ron_spec_grammar.specs.Schema.{Shape, optional, seq, map as map_, is_in_range, holds_below, has_no_cycle, has_distinct_names, has_whole_range, OfShape, AllOfShape, PairsOfShape}
+use Rattle.ron_spec_grammar.specs.Schema.{Shape, optional, seq, map as map_, is_in_range, holds_below, has_no_cycle, has_distinct_names, has_whole_range}
+use Rattle.ron_spec_grammar.specs.Schema.{OfShape, AllOfShape, PairsOfShape}
 use Rattle.ron_data.specs.declared.data.Data.{Data, out-Data, the_lemmas}
 use Rattle.ron_data.specs.declared.data.Data.TheOpen.{Data-F}
 use Rattle.ron_data.specs.declared.data.Data.TheVariants as held
@@ -30,13 +31,16 @@ use Rattle.ron_types_laws.proofs.OutlineLemmas.{outline_in, seen, whole_accepts}
 -- no index goes past the table
 within : (t : Table) → IsFormed t → (nat_lt t.root (length t.shapes) ≡ true) × (list_all (holds_below (length t.shapes)) t.shapes ≡ true)
 within t formed =
-    let range = and_parts (is_in_range t.shapes t.root) (has_no_cycle t.shapes && (list_all has_distinct_names t.shapes && list_all has_whole_range t.shapes)) formed in
+    let range =
+    and_parts (is_in_range t.shapes t.root) (has_no_cycle t.shapes && (list_all has_distinct_names t.shapes && list_all has_whole_range t.shapes)) formed in
     and_parts (nat_lt t.root (length t.shapes)) (list_all (holds_below (length t.shapes)) t.shapes) range.0
 
 -- data of a table that stands behind others, and before more, is of the table
-pub of_part : (shapes : List Shape) (t : Table) (more : List Shape) → IsFormed t → (d : plain.Data) → OfShape (put shapes t ++ more) (root_in shapes t) d → IsOf t d
+pub of_part : (shapes : List Shape) (t : Table) (more : List Shape) → IsFormed t → (d : plain.Data) → OfShape (put shapes t ++ more) (root_in shapes t) d
+    → IsOf t d
 of_part shapes t more formed d h =
-    from_shape (length shapes) t.shapes (put shapes t ++ more) (λ i s at. get_front (put shapes t) more (length shapes + i) (moved (length shapes) s) (stands_behind shapes t i s at)) (within t formed).1 t.root (within t formed).0 d h
+    from_shape (length shapes) t.shapes (put shapes t ++ more) (λ i s at. get_front (put shapes t) more (length shapes + i) (moved (length shapes) s)
+    (stands_behind shapes t i s at)) (within t formed).1 t.root (within t formed).0 d h
 
 -- the part's root lies among the shapes
 pub root_within : (shapes : List Shape) (t : Table) → IsFormed t → root_in shapes t < length (put shapes t)
@@ -78,7 +82,8 @@ module _ (t : Table) (P : Data → Type 0) (all : AcceptsAll t P) where
   pub options : AcceptsAll (optional_table t) (IsOption P)
   options =
       let top = optional (root_in [] t) in
-      whole_accepts (optional_table t) top (IsOption P) (one_formed top (record { in_range = first_within; distinct = refl; whole = refl })) (get_last (put [] t) top) option_accepts
+      whole_accepts (optional_table t) top (IsOption P) (one_formed top (record { in_range = first_within; distinct = refl; whole = refl }))
+      (get_last (put [] t) top) option_accepts
 
   -- ---- lists
 
@@ -95,7 +100,8 @@ module _ (t : Table) (P : Data → Type 0) (all : AcceptsAll t P) where
   pub lists : AcceptsAll (seq_table t) (IsList (Each P))
   lists =
       let top = seq (root_in [] t) in
-      whole_accepts (seq_table t) top (IsList (Each P)) (one_formed top (record { in_range = first_within; distinct = refl; whole = refl })) (get_last (put [] t) top) list_accepts
+      whole_accepts (seq_table t) top (IsList (Each P)) (one_formed top (record { in_range = first_within; distinct = refl; whole = refl }))
+      (get_last (put [] t) top) list_accepts
 
 -- ---- maps
 
@@ -109,7 +115,8 @@ module _ (k v : Table) (P Q : Data → Type 0) (keys : AcceptsAll k P) (values :
       let below = root_within [] k keys.formed in
       let key : root_in [] k < length (put (put [] k) v) = omega (arith, below, length_put (put [] k) v) in
       topped_well_formed (put (put [] k) v) top (put_closed (put [] k) v first (closed_of v.shapes v.root values.formed)) (record {
-        in_range = and_from _ _ (lt-ltb (root_in [] k) (length (put (put [] k) v)) key) (lt-ltb (root_in (put [] k) v) (length (put (put [] k) v)) (root_within (put [] k) v values.formed));
+        in_range = and_from _ _ (lt-ltb (root_in [] k) (length (put (put [] k) v)) key)
+            (lt-ltb (root_in (put [] k) v) (length (put (put [] k) v)) (root_within (put [] k) v values.formed));
         distinct = refl;
         whole = refl;
       })
@@ -117,7 +124,8 @@ module _ (k v : Table) (P Q : Data → Type 0) (keys : AcceptsAll k P) (values :
   key_accepted : (d : Data) → OfShape (map_table k v).shapes (root_in [] k) (data_view d) → P d
   key_accepted d h =
       let more = map (moved (length (put [] k))) v.shapes in
-      keys.accepted d (of_part [] k (more ++ top ∷ []) keys.formed (data_view d) (subst (λ shapes. OfShape shapes (root_in [] k) (data_view d)) (append_assoc (put [] k) more (top ∷ [])) h))
+      keys.accepted d (of_part [] k (more ++ top ∷ []) keys.formed (data_view d)
+      (subst (λ shapes. OfShape shapes (root_in [] k) (data_view d)) (append_assoc (put [] k) more (top ∷ [])) h))
 
   value_accepted : (d : Data) → OfShape (map_table k v).shapes (root_in (put [] k) v) (data_view d) → Q d
   value_accepted d h = values.accepted d (of_part (put [] k) v (top ∷ []) values.formed (data_view d) h)
@@ -133,7 +141,8 @@ module _ (k v : Table) (P Q : Data → Type 0) (keys : AcceptsAll k P) (values :
       let key : h.0 ≡ root_in [] k = cc in
       let value : h.1 ≡ root_in (put [] k) v = cc in
       let is : d ≡ held.Map ps = search (rules, the_lemmas) in
-      let all = subst (λ j. PairsOfShape (map_table k v).shapes j (root_in (put [] k) v) (pairs_view ps.items)) key (subst (λ j. PairsOfShape (map_table k v).shapes h.0 j (pairs_view ps.items)) value h.3) in
+      let all = subst (λ j. PairsOfShape (map_table k v).shapes j (root_in (put [] k) v) (pairs_view ps.items)) key
+      (subst (λ j. PairsOfShape (map_table k v).shapes h.0 j (pairs_view ps.items)) value h.3) in
       subst (IsMap (Each (Both P Q))) (sym is) (accepts-Map (Each (Both P Q)) ps (pairs_accepted ps.items all))
   map_accepts d o at e h = absurd (cc)
 

@@ -8,7 +8,8 @@ use Rattle.ron_types_laws.specs.Laws.{AreRefusals, AreRowRefusals}
 pub no_part : AreRowRefusals NoPart
 no_part e h = absurd h
 
-pub more_parts : (refuses : Data → Error → Type 0) (Others : Error → Type 0) → AreRefusals refuses → AreRowRefusals Others → AreRowRefusals (PartOr refuses Others)
+pub more_parts : (refuses : Data → Error → Type 0) (Others : Error → Type 0) → AreRefusals refuses → AreRowRefusals Others
+    → AreRowRefusals (PartOr refuses Others)
 more_parts refuses Others part others e (inl h) = part h.0 e h.1
 more_parts refuses Others part others e (inr h) = others e h
 

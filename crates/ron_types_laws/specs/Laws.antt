@@ -17,7 +17,8 @@ use Rattle.ron_types.specs.Rows.{AreNames}
 abbrev pub IsOfTable : Table → Data → Type 0
 IsOfTable t d = IsOf t (data_view d)
 
--- The table is well formed, as that of each schema that is made is. In one that is not, an index may go past the end, and stand for another shape once more shapes follow.
+-- The table is well formed, as that of each schema that is made is. In one that is not, an index may go past the end, and stand for another shape once more
+-- shapes follow.
 abbrev pub IsFormed : Table → Type 0
 IsFormed t = is_well_formed t.shapes t.root ≡ true
 

@@ -1,5 +1,6 @@
 -- Pairs whose keys ascend are the entries of their map as they stand: for `Map::from_pairs`.
-use Rattle.std.proofs.Common.{◌≡◌, ◌↔◌, ℕ, ◌+◌, ◌<◌, Bool, true, false, [], ◌∷◌, ◌++◌, length, map, get_or, Less, Equal, Greater, refl, sym, ap, ◌∙◌, subst, append-nil, append_assoc, arith}
+use Rattle.std.proofs.Common.{◌≡◌, ◌↔◌, ℕ, ◌+◌, ◌<◌, Bool, true, false, [], ◌∷◌, ◌++◌, length, map, get_or, Less, Equal, Greater, refl, sym, ap, ◌∙◌, subst}
+use Rattle.std.proofs.Common.{append-nil, append_assoc, arith}
 use Rattle.std.specs.Prelude.{IsTrue}
 use Rattle.std.specs.declared.cmp.Ordering.{Ordering}
 use Rattle.std.specs.Ordering.{ordering_reverse, is_lt}
@@ -30,7 +31,8 @@ holds_at : (P : Value → Type 0) (es : Entries) (p : Value × Value) (ps : Entr
 holds_at P [] p ps all = all.0
 holds_at P (e ∷ es) p ps all = holds_at P es p ps all.1
 
-before_below : (es : Entries) (p : Value × Value) (ps : Entries) → IsStrictlySortedBy value_cmp (keys_of (es ++ p ∷ ps)) → AllByRecursion (λ y. value_cmp y p.0 ≡ Less) (keys_of es)
+before_below : (es : Entries) (p : Value × Value) (ps : Entries) → IsStrictlySortedBy value_cmp (keys_of (es ++ p ∷ ps))
+    → AllByRecursion (λ y. value_cmp y p.0 ≡ Less) (keys_of es)
 unfolding IsStrictlySortedBy
 before_below [] p ps ascend = tt
 before_below (e ∷ es) p ps ascend = (holds_at (λ y. value_cmp e.0 y ≡ Less) es p ps ascend.0, before_below es p ps ascend.1)
@@ -50,7 +52,8 @@ put_in_order ps ascend = put_behind ps [] ascend
 key_at : (es : Entries) (k : ℕ) (d : Value × Value) → k < length es → get_or (keys_of es) k d.0 ≡ (get_or es k d).0
 key_at es k d within = get_or-map (λ e. e.0) es k d d.0 within
 
-keys_at : (es : Entries) (k : ℕ) (d : Value × Value) → k + 1 < length es → value_cmp (get_or (keys_of es) k d.0) (get_or (keys_of es) (k + 1) d.0) ≡ value_cmp (get_or es k d).0 (get_or es (k + 1) d).0
+keys_at : (es : Entries) (k : ℕ) (d : Value × Value) → k + 1 < length es
+    → value_cmp (get_or (keys_of es) k d.0) (get_or (keys_of es) (k + 1) d.0) ≡ value_cmp (get_or es k d).0 (get_or es (k + 1) d).0
 keys_at es k d within =
     ap (λ x. value_cmp x (get_or (keys_of es) (k + 1) d.0)) (key_at es k d (omega arith)) ∙ ap (value_cmp (get_or es k d).0) (key_at es (k + 1) d within)
 
@@ -67,13 +70,15 @@ ascending (e ∷ es) next =
     let within : k + 1 < length (e ∷ es) = omega (arith, length-map (e ∷ es) (λ p. p.0)) in
     keys_at (e ∷ es) k e within ∙ less _ (next k e within))
 
-not_below : (es : Entries) (k : ℕ) → k + 1 < length es → ((d : Value × Value) → false ≡ is_lt (value_cmp (get_or es k d).0 (get_or es (k + 1) d).0)) → IsStrictlySortedBy value_cmp (keys_of es) → ⊥
+not_below : (es : Entries) (k : ℕ) → k + 1 < length es → ((d : Value × Value) → false ≡ is_lt (value_cmp (get_or es k d).0 (get_or es (k + 1) d).0))
+    → IsStrictlySortedBy value_cmp (keys_of es) → ⊥
 not_below [] k within fails ascend = absurd (omega arith)
 not_below (e ∷ es) k within fails ascend =
     let below = Less-from_sorted value_cmp (keys_of (e ∷ es)) k (k + 1) e.0 ascend (omega arith) (omega (arith, length-map (e ∷ es) (λ p. p.0))) in
     false≢true (fails e ∙ ap is_lt (sym (keys_at (e ∷ es) k e within) ∙ below))
 
-pub by_neighbours : (es : Entries) (r : Bool) → IsAllAdjacentAnswer (λ x y b. b ≡ is_lt (value_cmp x.0 y.0)) es r → IsTrue r ↔ IsStrictlySortedBy value_cmp (keys_of es)
+pub by_neighbours : (es : Entries) (r : Bool) → IsAllAdjacentAnswer (λ x y b. b ≡ is_lt (value_cmp x.0 y.0)) es r
+    → IsTrue r ↔ IsStrictlySortedBy value_cmp (keys_of es)
 by_neighbours es true next = (λ _. ascending es next, λ _. refl)
 by_neighbours es false next = (λ no. absurd (false≢true no), λ ascend. absurd (not_below es next.0 next.1 next.2 ascend))
 

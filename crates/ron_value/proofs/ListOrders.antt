@@ -10,7 +10,8 @@ nat_cmp-suc m n = grind (arith, nat_tests)
 
 module _ {A K : Type 0} (view : A → K) (cmp : K → K → Ordering) where
   -- the lengths decide behind the end of the first list
-  pub slice_cmp-first_ended : (xs ys : List A) (i : ℕ) → i ≤ length xs → i ≤ length ys → length xs ≤ i → slice_cmp cmp (map view (drop i xs)) (map view (drop i ys)) ≡ nat_cmp (length xs) (length ys)
+  pub slice_cmp-first_ended : (xs ys : List A) (i : ℕ) → i ≤ length xs → i ≤ length ys → length xs ≤ i
+      → slice_cmp cmp (map view (drop i xs)) (map view (drop i ys)) ≡ nat_cmp (length xs) (length ys)
   slice_cmp-first_ended [] [] zero in_xs in_ys ended = refl
   slice_cmp-first_ended [] (y ∷ ys) zero in_xs in_ys ended = grind (arith, nat_tests)
   slice_cmp-first_ended (x ∷ xs) ys zero in_xs in_ys ended = absurd (omega arith)
@@ -20,7 +21,8 @@ module _ {A K : Type 0} (view : A → K) (cmp : K → K → Ordering) where
       slice_cmp-first_ended xs ys i (omega arith) (omega arith) (omega arith) ∙ nat_cmp-suc (length xs) (length ys)
 
   -- and behind the end of the second
-  pub slice_cmp-second_ended : (xs ys : List A) (i : ℕ) → i ≤ length xs → i ≤ length ys → length ys ≤ i → slice_cmp cmp (map view (drop i xs)) (map view (drop i ys)) ≡ nat_cmp (length xs) (length ys)
+  pub slice_cmp-second_ended : (xs ys : List A) (i : ℕ) → i ≤ length xs → i ≤ length ys → length ys ≤ i
+      → slice_cmp cmp (map view (drop i xs)) (map view (drop i ys)) ≡ nat_cmp (length xs) (length ys)
   slice_cmp-second_ended [] [] zero in_xs in_ys ended = refl
   slice_cmp-second_ended (x ∷ xs) [] zero in_xs in_ys ended = grind (arith, nat_tests)
   slice_cmp-second_ended xs (y ∷ ys) zero in_xs in_ys ended = absurd (omega arith)

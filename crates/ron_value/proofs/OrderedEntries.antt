@@ -1,5 +1,6 @@
 -- Entries of values stay ordered, since their trees do: for the calls of `Map`.
-use Rattle.std.proofs.Common.{◌≡◌, Bool, true, false, cond, ℕ, zero, suc, ◌<◌, List, [], ◌∷◌, length, get_or, map, Less, Equal, Greater, refl, sym, ap, subst, arith}
+use Rattle.std.proofs.Common.{◌≡◌, Bool, true, false, cond, ℕ, zero, suc, ◌<◌, List, [], ◌∷◌, length, get_or, map, Less, Equal, Greater, refl, sym, ap, subst}
+use Rattle.std.proofs.Common.{arith}
 use Rattle.std.specs.Ordering.{match_ordering}
 use Rattle.std.specs.List.{AllByRecursion, items_where_true}
 use Rattle.std.specs.List.Sorted.{IsStrictlySortedBy}
@@ -22,7 +23,8 @@ trees-with_entry : (k v : Value) (es : Entries) → map pair_tree (with_entry k 
 trees-with_entry k v [] = refl
 trees-with_entry k v (e ∷ es) =
     elim (value_cmp k e.0) as (λ o. map pair_tree (match_ordering o ((k, v) ∷ e ∷ es) ((e.0, v) ∷ es) (e ∷ with_entry k v es))
-    ≡ match_ordering o ((tree_of k, tree_of v) ∷ map pair_tree (e ∷ es)) ((tree_of e.0, tree_of v) ∷ map pair_tree es) (pair_tree e ∷ insert_entry tree_cmp (map pair_tree es) (tree_of k) (tree_of v))) [
+    ≡ match_ordering o ((tree_of k, tree_of v) ∷ map pair_tree (e ∷ es)) ((tree_of e.0, tree_of v) ∷ map pair_tree es)
+    (pair_tree e ∷ insert_entry tree_cmp (map pair_tree es) (tree_of k) (tree_of v))) [
       | Less ↦ refl
       | Equal ↦ refl
       | Greater ↦ ap (λ ts. pair_tree e ∷ ts) (trees-with_entry k v es)
@@ -62,7 +64,8 @@ AreOrdered-with_value k v es ordered value =
 
 -- ---- some of the entries
 
-all-items_where_true : (P : Tree → Type 0) (bs : List Bool) (es : Entries) → AllByRecursion P (keys_in (pairs_from (map pair_tree es))) → AllByRecursion P (keys_in (pairs_from (map pair_tree (items_where_true bs es))))
+all-items_where_true : (P : Tree → Type 0) (bs : List Bool) (es : Entries) → AllByRecursion P (keys_in (pairs_from (map pair_tree es)))
+    → AllByRecursion P (keys_in (pairs_from (map pair_tree (items_where_true bs es))))
 all-items_where_true P [] es all = tt
 all-items_where_true P (b ∷ bs) [] all = tt
 all-items_where_true P (true ∷ bs) (e ∷ es) all = (all.0, all-items_where_true P bs es all.1)

@@ -1,5 +1,6 @@
 -- What each call of `Map` makes of its entries, by the place of the key.
-use Rattle.std.proofs.Common.{◌≡◌, ℕ, zero, suc, ◌<◌, None, Some, Result, Ok, Err, IsOk, subst, [], ◌∷◌, length, get_or, map, Less, Equal, Greater, refl, sym, ap, ◌∙◌, arith}
+use Rattle.std.proofs.Common.{◌≡◌, ℕ, zero, suc, ◌<◌, None, Some, Result, Ok, Err, IsOk, subst, [], ◌∷◌, length, get_or, map, Less, Equal, Greater, refl, sym}
+use Rattle.std.proofs.Common.{ap, ◌∙◌, arith}
 use Rattle.std.specs.Prelude.{slice_set, IsSome, ⊤}
 use Rattle.std.specs.List.{AllByRecursion, insert, remove}
 use Rattle.std.specs.List.Sorted.{IsStrictlySortedBy}
@@ -42,7 +43,8 @@ module _ (k : Value) where
   key_place-found (e ∷ es) zero found = rw found refl
   key_place-found (e ∷ es) (suc i) found = rw found.0 (ap suc (key_place-found es i found.1))
 
-  pub set-key_place : (es : Entries) (i : ℕ) (v : Value) → IsFoundAt k es i → slice_set es (key_place k es) ((get_or es (key_place k es) (k, v)).0, v) ≡ with_value k v es
+  pub set-key_place : (es : Entries) (i : ℕ) (v : Value) → IsFoundAt k es i
+      → slice_set es (key_place k es) ((get_or es (key_place k es) (k, v)).0, v) ≡ with_value k v es
   set-key_place es i v found =
       ap (λ (n : ℕ). slice_set es n ((get_or es n (k, v)).0, v)) (key_place-found es i found) ∙ sym (with_value-found es i (k, v) v found)
 
@@ -86,7 +88,8 @@ module _ (k : Value) where
   AreBelow [] (suc i) = ⊥
   AreBelow (e ∷ es) (suc i) = (value_cmp k e.0 ≡ Greater) × AreBelow es i
 
-  pub below_more : (es : Entries) (i : ℕ) (d : Value × Value) → AreBelow es i → i < length es → d ≡ get_or es i d → value_cmp k d.0 ≡ Greater → AreBelow es (suc i)
+  pub below_more : (es : Entries) (i : ℕ) (d : Value × Value) → AreBelow es i → i < length es → d ≡ get_or es i d → value_cmp k d.0 ≡ Greater
+      → AreBelow es (suc i)
   below_more [] i d below inside is above = absurd (omega arith)
   below_more (e ∷ es) zero d below inside is above = (ap (λ (p : Value × Value). value_cmp k p.0) (sym is) ∙ above, tt)
   below_more (e ∷ es) (suc i) d below inside is above = (below.0, below_more es i d below.1 (omega arith) is above)

@@ -15,7 +15,8 @@ use Rattle.ron_value.specs.Place.{IsFoundAt, IsMissingAt}
 use Rattle.ron_value.specs.declared.value.Value.{Value}
 use Rattle.ron_value.proofs.OrderedEntries.{AreOrdered}
 
-all_at : (P : Tree → Type 0) (es : Entries) (i : ℕ) (d : Value × Value) → AllByRecursion P (keys_in (pairs_from (map pair_tree es))) → i < length es → P (tree_of (get_or es i d).0)
+all_at : (P : Tree → Type 0) (es : Entries) (i : ℕ) (d : Value × Value) → AllByRecursion P (keys_in (pairs_from (map pair_tree es))) → i < length es
+    → P (tree_of (get_or es i d).0)
 all_at P [] i d all inside = absurd (omega arith)
 all_at P (e ∷ es) zero d all inside = all.0
 all_at P (e ∷ es) (suc i) d all inside = all_at P es i d all.1 (omega arith)
@@ -37,7 +38,8 @@ module _ (k : Value) where
       let same : tree_cmp (tree_of e.0) y ≡ tree_cmp (tree_of e.0) (tree_of k) = alike_right tree_cmp_total y (tree_of k) (tree_of e.0) (holds e) in
       (above (tree_of e.0) (sym same ∙ less), found es i (ordered.0.1, ordered.1.2) (omega arith) (λ d. holds d))
 
-  pub missing : (es : Entries) (i : ℕ) → i ≤ length es → AllWithin (λ y. value_cmp y.0 k ≡ Less) es 0 i → AllWithin (λ y. value_cmp y.0 k ≡ Greater) es i (length es) → IsMissingAt k es i
+  pub missing : (es : Entries) (i : ℕ) → i ≤ length es → AllWithin (λ y. value_cmp y.0 k ≡ Less) es 0 i
+      → AllWithin (λ y. value_cmp y.0 k ≡ Greater) es i (length es) → IsMissingAt k es i
   missing [] zero inside before behind = tt
   missing [] (suc i) inside before behind = absurd (omega arith)
   missing (e ∷ es) zero inside before behind = below (tree_of e.0) (behind 0 e (omega arith) (omega arith))
@@ -72,13 +74,18 @@ module _ (k : Value) where
   most o high = absurd (omega arith)
 
   -- what was read at a place stands there
-  pub seen : (o : Ordering) (es : Entries) (i : ℕ) (e : Value × Value) → i < length es → value_cmp (get_or es i e).0 k ≡ o → HoldsAt (λ y. value_cmp y.0 k ≡ o) es i
+  pub seen : (o : Ordering) (es : Entries) (i : ℕ) (e : Value × Value) → i < length es → value_cmp (get_or es i e).0 k ≡ o
+      → HoldsAt (λ y. value_cmp y.0 k ≡ o) es i
   seen o es i e inside is d = ap (λ (p : Value × Value). value_cmp p.0 k) (get_or_default es i d e inside) ∙ is
 
   -- where a key is below k, so is each before it
-  pub below_before : (es : Entries) (i : ℕ) → AreOrdered es → i < length es → HoldsAt (λ y. value_cmp y.0 k ≡ Less) es i → AllWithin (λ y. value_cmp y.0 k ≡ Less) es 0 (i + 1)
-  below_before es i ordered inside here j d low high = least (value_cmp (get_or es j d).0 k) (subst (λ o. ordering_index (value_cmp (get_or es j d).0 k) ≤ ordering_index o) (here d) (rising es ordered j i d (omega arith) inside))
+  pub below_before : (es : Entries) (i : ℕ) → AreOrdered es → i < length es → HoldsAt (λ y. value_cmp y.0 k ≡ Less) es i
+      → AllWithin (λ y. value_cmp y.0 k ≡ Less) es 0 (i + 1)
+  below_before es i ordered inside here j d low high = least (value_cmp (get_or es j d).0 k)
+      (subst (λ o. ordering_index (value_cmp (get_or es j d).0 k) ≤ ordering_index o) (here d) (rising es ordered j i d (omega arith) inside))
 
   -- where a key is above k, so is each behind it
-  pub above_behind : (es : Entries) (i : ℕ) → AreOrdered es → i < length es → HoldsAt (λ y. value_cmp y.0 k ≡ Greater) es i → AllWithin (λ y. value_cmp y.0 k ≡ Greater) es i (length es)
-  above_behind es i ordered inside here j d low high = most (value_cmp (get_or es j d).0 k) (subst (λ o. ordering_index o ≤ ordering_index (value_cmp (get_or es j d).0 k)) (here d) (rising es ordered i j d low high))
+  pub above_behind : (es : Entries) (i : ℕ) → AreOrdered es → i < length es → HoldsAt (λ y. value_cmp y.0 k ≡ Greater) es i
+      → AllWithin (λ y. value_cmp y.0 k ≡ Greater) es i (length es)
+  above_behind es i ordered inside here j d low high = most (value_cmp (get_or es j d).0 k)
+      (subst (λ o. ordering_index o ≤ ordering_index (value_cmp (get_or es j d).0 k)) (here d) (rising es ordered i j d low high))

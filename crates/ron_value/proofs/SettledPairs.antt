@@ -32,8 +32,10 @@ pub settles-found : (done rest : Entries) (p d : Value × Value) (i : ℕ) → i
     (slice_set (remove (done ++ p ∷ rest) (length done)) i (d.0, p.1) ≡ with_entry p.0 p.1 done ++ rest) × (length done ≡ length (with_entry p.0 p.1 done))
 settles-found done rest p d i inside place is =
     let there : d ≡ get_or done i d = is ∙ ap (λ (es : Entries). get_or es i d) (remove-seam done rest p) ∙ get_or_append_left done rest d i inside in
-    let put : with_entry p.0 p.1 done ≡ slice_set done i (d.0, p.1) = with_entry-found p.0 done i d p.1 place ∙ ap (λ (e : Value × Value). slice_set done i (e.0, p.1)) (sym there) in (
-      ap (λ (es : Entries). slice_set es i (d.0, p.1)) (remove-seam done rest p) ∙ set-append_left done rest i (d.0, p.1) inside ∙ ap (λ (es : Entries). es ++ rest) (sym put),
+    let put : with_entry p.0 p.1 done ≡ slice_set done i (d.0, p.1) =
+    with_entry-found p.0 done i d p.1 place ∙ ap (λ (e : Value × Value). slice_set done i (e.0, p.1)) (sym there) in (
+      ap (λ (es : Entries). slice_set es i (d.0, p.1)) (remove-seam done rest p) ∙ set-append_left done rest i (d.0, p.1) inside
+          ∙ ap (λ (es : Entries). es ++ rest) (sym put),
       sym (ap (λ (es : Entries). length es) put ∙ length-set done i (d.0, p.1)),
     )
 
@@ -57,8 +59,10 @@ settles-behind done rest p i last place =
     )
 
 -- where one more is put among them, that many are in order
-settled_on : (whole pairs new done rest : Entries) (n m : ℕ) → pairs ≡ done ++ rest → n ≡ length done → with_entries rest done ≡ with_entries whole [] → IsOrdered (entries_tree done) → ArePartsOrdered rest → n < length pairs →
-    ((ds : Entries) → (p : Value × Value) → (ps : Entries) → pairs ≡ ds ++ (p ∷ ps) → n ≡ length ds → IsOrdered (entries_tree ds) → (new ≡ with_entry p.0 p.1 ds ++ ps) × (m ≡ length (with_entry p.0 p.1 ds))) → Settled whole new m
+settled_on : (whole pairs new done rest : Entries) (n m : ℕ) → pairs ≡ done ++ rest → n ≡ length done → with_entries rest done ≡ with_entries whole []
+    → IsOrdered (entries_tree done) → ArePartsOrdered rest → n < length pairs →
+    ((ds : Entries) → (p : Value × Value) → (ps : Entries) → pairs ≡ ds ++ (p ∷ ps) → n ≡ length ds → IsOrdered (entries_tree ds)
+    → (new ≡ with_entry p.0 p.1 ds ++ ps) × (m ≡ length (with_entry p.0 p.1 ds))) → Settled whole new m
 settled_on whole pairs new done [] n m parts count content ordered others inside put =
     let long : length pairs ≡ length done = ap (λ (es : Entries). length es) (parts ∙ append-nil done) in
     absurd (omega (arith, long, count, inside))
@@ -75,5 +79,6 @@ settled_on whole pairs new done (p ∷ rest) n m parts count content ordered oth
     }
 
 pub settled-more : (whole pairs new : Entries) (n m : ℕ) → Settled whole pairs n → n < length pairs →
-    ((ds : Entries) → (p : Value × Value) → (ps : Entries) → pairs ≡ ds ++ (p ∷ ps) → n ≡ length ds → IsOrdered (entries_tree ds) → (new ≡ with_entry p.0 p.1 ds ++ ps) × (m ≡ length (with_entry p.0 p.1 ds))) → Settled whole new m
+    ((ds : Entries) → (p : Value × Value) → (ps : Entries) → pairs ≡ ds ++ (p ∷ ps) → n ≡ length ds → IsOrdered (entries_tree ds)
+    → (new ≡ with_entry p.0 p.1 ds ++ ps) × (m ≡ length (with_entry p.0 p.1 ds))) → Settled whole new m
 settled-more whole pairs new n m s inside put = settled_on whole pairs new s.done s.rest n m s.parts s.count s.content s.ordered s.others inside put

@@ -24,7 +24,8 @@ IsOrderedMap es = IsOrdered (mapping (pairs_from es))
 
 -- ---- a fact of each key
 
-all-insert_entry : (P : Tree → Type 0) (k v : Tree) (es : TreeEntries) → AllByRecursion P (keys es) → P k → AllByRecursion P (keys (insert_entry tree_cmp es k v))
+all-insert_entry : (P : Tree → Type 0) (k v : Tree) (es : TreeEntries) → AllByRecursion P (keys es) → P k
+    → AllByRecursion P (keys (insert_entry tree_cmp es k v))
 all-insert_entry P k v [] all here = (here, tt)
 all-insert_entry P k v (e ∷ es) all here =
     elim (tree_cmp k e.0) as (λ o. AllByRecursion P (keys (match_ordering o ((k, v) ∷ e ∷ es) ((e.0, v) ∷ es) (e ∷ insert_entry tree_cmp es k v)))) [
@@ -42,7 +43,8 @@ all-remove_entry P test (e ∷ es) all =
     ]
 
 -- what is below a key is below all keys above it
-pub all_above : (k e : Tree) → tree_cmp k e ≡ Less → (ks : List Tree) → AllByRecursion (λ y. tree_cmp e y ≡ Less) ks → AllByRecursion (λ y. tree_cmp k y ≡ Less) ks
+pub all_above : (k e : Tree) → tree_cmp k e ≡ Less → (ks : List Tree) → AllByRecursion (λ y. tree_cmp e y ≡ Less) ks
+    → AllByRecursion (λ y. tree_cmp k y ≡ Less) ks
 all_above k e below [] all = tt
 all_above k e below (y ∷ ks) all = (tree_cmp_total.trans k e y below all.0, all_above k e below ks all.1)
 
@@ -52,7 +54,8 @@ pub sorted-insert_entry : (k v : Tree) (es : TreeEntries) → AreSorted (keys es
 unfolding IsStrictlySortedBy
 sorted-insert_entry k v [] sorted = (tt, tt)
 sorted-insert_entry k v (e ∷ es) sorted =
-    elim (tree_cmp k e.0) as (λ o. tree_cmp k e.0 ≡ o → AreSorted (keys (match_ordering o ((k, v) ∷ e ∷ es) ((e.0, v) ∷ es) (e ∷ insert_entry tree_cmp es k v)))) [
+    elim (tree_cmp k e.0)
+    as (λ o. tree_cmp k e.0 ≡ o → AreSorted (keys (match_ordering o ((k, v) ∷ e ∷ es) ((e.0, v) ∷ es) (e ∷ insert_entry tree_cmp es k v)))) [
       | Less ↦ λ below. ((below, all_above k e.0 below (keys es) sorted.0), sorted)
       | Equal ↦ λ _. sorted
       | Greater ↦ λ above. (
@@ -80,7 +83,8 @@ keys-set_value test (e ∷ es) w =
 
 -- ---- and so does what stands inside
 
-parts-insert_entry : (k v : Tree) (es : TreeEntries) → IsOrdered k → IsOrdered v → ArePairsOrdered (pairs_from es) → ArePairsOrdered (pairs_from (insert_entry tree_cmp es k v))
+parts-insert_entry : (k v : Tree) (es : TreeEntries) → IsOrdered k → IsOrdered v → ArePairsOrdered (pairs_from es)
+    → ArePairsOrdered (pairs_from (insert_entry tree_cmp es k v))
 parts-insert_entry k v [] key value parts = (key, value, tt)
 parts-insert_entry k v (e ∷ es) key value parts =
     elim (tree_cmp k e.0) as (λ o. ArePairsOrdered (pairs_from (match_ordering o ((k, v) ∷ e ∷ es) ((e.0, v) ∷ es) (e ∷ insert_entry tree_cmp es k v)))) [
@@ -97,7 +101,8 @@ parts-remove_entry test (e ∷ es) parts =
       | false ↦ (parts.0, parts.1, parts-remove_entry test es parts.2)
     ]
 
-parts-set_value : (test : Tree → Bool) (w : Tree) (es : TreeEntries) → IsOrdered w → ArePairsOrdered (pairs_from es) → ArePairsOrdered (pairs_from (set_value test es w))
+parts-set_value : (test : Tree → Bool) (w : Tree) (es : TreeEntries) → IsOrdered w → ArePairsOrdered (pairs_from es)
+    → ArePairsOrdered (pairs_from (set_value test es w))
 parts-set_value test w [] value parts = parts
 parts-set_value test w (e ∷ es) value parts =
     elim (test e.0) as (λ b. ArePairsOrdered (pairs_from (cond b ((e.0, w) ∷ es) (e ∷ set_value test es w)))) [

@@ -4,7 +4,8 @@ use Rattle.std.specs.declared.cmp.Ordering.{Ordering}
 use Rattle.std.specs.Ordering.{on, then_cmp}
 use Rattle.ron_value_number.specs.Width.{width_place}
 use Rattle.ron_value.specs.Node.{Node, node, Nodes, no_nodes, node_and, node_cmp}
-use Rattle.ron_value.specs.Tree.{Tree, boolean, character, mapping, number, none, some, text, bytes, sequence, unit, Items, no_items, item_and, Pairs, no_pairs, pair_and}
+use Rattle.ron_value.specs.Tree.{Tree, boolean, character, mapping, number, none, some, text, bytes, sequence, unit, Items, no_items, item_and, Pairs, no_pairs}
+use Rattle.ron_value.specs.Tree.{pair_and}
 
 -- false before true
 abbrev pub bit : Bool → ℤ

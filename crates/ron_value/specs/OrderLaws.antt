@@ -12,7 +12,8 @@ use Rattle.ron_value_number.specs.declared.width.Width.TheVariants.{I8, I16, I32
 use Rattle.ron_value_number.specs.Width.{width_place}
 use Rattle.ron_value.specs.Node.{Node, node, Nodes, no_nodes, node_and}
 use Rattle.ron_value.specs.NodeLaws.{node_cmp_total, node_same}
-use Rattle.ron_value.specs.Tree.{Tree, boolean, character, mapping, number, none, some, text, bytes, sequence, unit, Items, no_items, item_and, Pairs, no_pairs, pair_and, items_from, pairs_from}
+use Rattle.ron_value.specs.Tree.{Tree, boolean, character, mapping, number, none, some, text, bytes, sequence, unit, Items, no_items, item_and, Pairs, no_pairs}
+use Rattle.ron_value.specs.Tree.{pair_and, items_from, pairs_from}
 use Rattle.ron_value.specs.Order.{node_of, item_nodes, pair_nodes, tree_cmp, pair_cmp}
 
 pub tree_cmp_total : IsTotalOrder tree_cmp

@@ -1,7 +1,8 @@
 -- Trees in which each map has its keys in order, each key once, at every level.
 use Rattle.std.specs.Prelude.{List, [], ◌∷◌, ⊤}
 use Rattle.std.specs.List.Sorted.{IsStrictlySortedBy}
-use Rattle.ron_value.specs.Tree.{Tree, boolean, character, mapping, number, none, some, text, bytes, sequence, unit, Items, no_items, item_and, Pairs, no_pairs, pair_and}
+use Rattle.ron_value.specs.Tree.{Tree, boolean, character, mapping, number, none, some, text, bytes, sequence, unit, Items, no_items, item_and, Pairs, no_pairs}
+use Rattle.ron_value.specs.Tree.{pair_and}
 use Rattle.ron_value.specs.Order.{tree_cmp}
 
 abbrev pub keys_in : Pairs → List Tree

@@ -4,7 +4,8 @@ use Rattle.std.specs.Hash.{HashWrites}
 use Rattle.std.specs.Hash as fed
 use Rattle.ron_value_number.specs.declared.width.Width.{Width}
 use Rattle.ron_value_number.specs.Width.{bits, is_signed}
-use Rattle.ron_value.specs.Tree.{Tree, boolean, character, mapping, number, none, some, text, bytes, sequence, unit, Items, no_items, item_and, Pairs, no_pairs, pair_and}
+use Rattle.ron_value.specs.Tree.{Tree, boolean, character, mapping, number, none, some, text, bytes, sequence, unit, Items, no_items, item_and, Pairs, no_pairs}
+use Rattle.ron_value.specs.Tree.{pair_and}
 
 -- the width's bits and whether it has a sign, and the value as its sign and its magnitude
 abbrev pub number_writes : Width → ℤ → HashWrites

@@ -1,5 +1,6 @@
 -- The smallest width is found: the first of a list with ascending bits that passes a test has the fewest of those that do.
-use Rattle.std.proofs.Common.{◌≡◌, ◌≤◌, nat_lt, ltb-true, Bool, true, false, not, ◌&&◌, cond, find, List, [], ◌∷◌, Some, ◌⊎◌, inl, inr, refl, sym, ap, subst, ◌∙◌, arith}
+use Rattle.std.proofs.Common.{◌≡◌, ◌≤◌, nat_lt, ltb-true, Bool, true, false, not, ◌&&◌, cond, find, List, [], ◌∷◌, Some, ◌⊎◌, inl, inr, refl, sym, ap, subst}
+use Rattle.std.proofs.Common.{◌∙◌, arith}
 use Rattle.std.proofs.lemmas.Bool.{and_parts, not-true}
 use Rattle.std.specs.List.{list_all}
 use Rattle.ron_value_number.specs.declared.width.Width.{Width}
@@ -28,7 +29,9 @@ module _ (p : Width → Bool) where
   no_fewer : (w : Width) (ws : List Width) → ascends (w ∷ ws) ≡ true → Fewest (w ∷ ws) w
   no_fewer w ws a v (inl s) f = rw s (omega arith)
   no_fewer w ws a v (inr m) f =
-      let lt = ltb-true (bits w) (bits v) (all_members (λ x. nat_lt (bits w) (bits x)) ws (and_parts (list_all (λ x. nat_lt (bits w) (bits x)) ws) (ascends ws) a).0 v m) in omega arith
+      let lt = ltb-true (bits w) (bits v)
+      (all_members (λ x. nat_lt (bits w) (bits x)) ws (and_parts (list_all (λ x. nat_lt (bits w) (bits x)) ws) (ascends ws) a).0 v m) in
+      omega arith
 
   fails : (v w : Width) → v ≡ w → p w ≡ false → p v ≡ true → ⊥
   fails v w s h f = let x : true ≡ false = sym f ∙ ap p s ∙ h in cc
@@ -37,7 +40,8 @@ module _ (p : Width → Bool) where
   first_is [] a w e = absurd (cc)
   first_is (x ∷ ws) a w e = go (first_is ws (and_parts (list_all (λ v. nat_lt (bits x) (bits v)) ws) (ascends ws) a).1 w) (p x) refl e
     where
-      go : (find p ws ≡ Some w → Member w ws × (p w ≡ true) × Fewest ws w) → (b : Bool) → p x ≡ b → cond b (Some x) (find p ws) ≡ Some w → Member w (x ∷ ws) × (p w ≡ true) × Fewest (x ∷ ws) w
+      go : (find p ws ≡ Some w → Member w ws × (p w ≡ true) × Fewest ws w) → (b : Bool) → p x ≡ b → cond b (Some x) (find p ws) ≡ Some w
+          → Member w (x ∷ ws) × (p w ≡ true) × Fewest (x ∷ ws) w
       go again true h k = let same : x ≡ w = cc in (inl (sym same), ap p (sym same) ∙ h, subst (Fewest (x ∷ ws)) same (no_fewer x ws a))
       go again false h k = let r = again k in (inr r.0, r.1, behind r.2)
         where
@@ -47,12 +51,14 @@ module _ (p : Width → Bool) where
 
   finds : (ws : List Width) → ascends ws ≡ true → (w : Width) → Member w ws → p w ≡ true → Fewest ws w → find p ws ≡ Some w
   finds [] a w m f l = absurd m
-  finds (x ∷ ws) a w m f l = go (λ n. finds ws (and_parts (list_all (λ v. nat_lt (bits x) (bits v)) ws) (ascends ws) a).1 w n f (λ v k. l v (inr k))) (p x) refl m
+  finds (x ∷ ws) a w m f l =
+      go (λ n. finds ws (and_parts (list_all (λ v. nat_lt (bits x) (bits v)) ws) (ascends ws) a).1 w n f (λ v k. l v (inr k))) (p x) refl m
     where
       go : (Member w ws → find p ws ≡ Some w) → (b : Bool) → p x ≡ b → Member w (x ∷ ws) → cond b (Some x) (find p ws) ≡ Some w
       go again true h (inl s) = ap Some (sym s)
       go again true h (inr n) =
-          let lt = ltb-true (bits x) (bits w) (all_members (λ v. nat_lt (bits x) (bits v)) ws (and_parts (list_all (λ v. nat_lt (bits x) (bits v)) ws) (ascends ws) a).0 w n) in
+          let lt = ltb-true (bits x) (bits w)
+          (all_members (λ v. nat_lt (bits x) (bits v)) ws (and_parts (list_all (λ v. nat_lt (bits x) (bits v)) ws) (ascends ws) a).0 w n) in
           let le = l x (inl refl) h in
           absurd (omega (arith, lt, le))
       go again false h (inl s) = absurd (fails w x s h f)

@@ -13,7 +13,8 @@ widths_of false = U8 ∷ U16 ∷ U32 ∷ U64 ∷ U128 ∷ []
 unfoldable pub smallest_width : Bool → ℤ → Option Width
 smallest_width with_sign z = find (λ w. fits w z) (widths_of with_sign)
 
--- The width of a number that is written without a type: its suffix's, where that holds the value. Without a suffix it is the smallest one that does, with a sign where a minus stands before the digits.
+-- The width of a number that is written without a type: its suffix's, where that holds the value. Without a suffix it is the smallest one that does, with a
+-- sign where a minus stands before the digits.
 abbrev pub written_width : Option Width → Bool → ℤ → Option Width
 written_width (Some w) minus z = if fits w z then Some w else None
 written_width None minus z = smallest_width minus z

@@ -29,12 +29,15 @@ file_by (Some (link to)) mode bytes e f = absurd (cc)
 file_by (Some other) mode bytes e f = absurd (cc)
 file_by None mode bytes e f = absurd (cc)
 
-two_texts : (m n : ℕ) (old mid mid2 new : List ℕ) → Some (file m mid) ≡ Some (file n mid2) → Relaid (chars old) (chars mid) → Relaid (chars mid2) (chars new) → Relaid (chars old) (chars new)
+two_texts : (m n : ℕ) (old mid mid2 new : List ℕ) → Some (file m mid) ≡ Some (file n mid2) → Relaid (chars old) (chars mid) → Relaid (chars mid2) (chars new)
+    → Relaid (chars old) (chars new)
 two_texts m n old mid mid2 new e r s = again (chars old) (chars mid) (chars new) r (rw (held_bytes m n mid mid2 e) s)
 
-kept_behind : (one two three : Paths) (at : List ℕ) (mode : ℕ) (old new : List ℕ) → one at ≡ Some (file mode old) → two at ≡ Some (file mode new) → Relaid (chars old) (chars new) → Keeps two three at → Keeps one three at
+kept_behind : (one two three : Paths) (at : List ℕ) (mode : ℕ) (old new : List ℕ) → one at ≡ Some (file mode old) → two at ≡ Some (file mode new)
+    → Relaid (chars old) (chars new) → Keeps two three at → Keeps one three at
 kept_behind one two three at mode old new p q r (same e) = relaid mode old new p (e ∙ q) r
-kept_behind one two three at mode old new p q r (relaid m mid last f g s) = relaid mode old last p (g ∙ ap (λ n. Some (file n last)) (held_mode m mode mid new (sym f ∙ q))) (two_texts mode m old new mid last (sym q ∙ f) r s)
+kept_behind one two three at mode old new p q r (relaid m mid last f g s) =
+    relaid mode old last p (g ∙ ap (λ n. Some (file n last)) (held_mode m mode mid new (sym f ∙ q))) (two_texts mode m old new mid last (sym q ∙ f) r s)
 kept_behind one two three at mode old new p q r (begun path is none) = absurd (cc)
 
 kept_then : (one two three : Paths) (at : List ℕ) → Keeps one two at → Keeps two three at → Keeps one three at
@@ -52,7 +55,8 @@ kept_again one two three first second at = kept_then one two three at (first at)
 pub kept_from : (one two three : Paths) → two ≡ one → KeepsAll two three → KeepsAll one three
 kept_from one two three e kept = rw (← e) kept
 
-kept_file : (path given old : List ℕ) (mode : ℕ) (before after : Paths) → before path ≡ Some (file mode old) → (after path ≡ before path) ⊎ Holds path given before after → Relaid (chars old) (chars given) → Keeps before after path
+kept_file : (path given old : List ℕ) (mode : ℕ) (before after : Paths) → before path ≡ Some (file mode old)
+    → (after path ≡ before path) ⊎ Holds path given before after → Relaid (chars old) (chars given) → Keeps before after path
 kept_file path given old mode before after held (inl e) r = same e
 kept_file path given old mode before after held (inr h) r = relaid mode old given held (file_by (after path) mode given (h.mode ∙ ap mode_of held) h.bytes) r
 
@@ -73,16 +77,20 @@ by_test : (b : Bool) (P : Type 0) → Decides b P → P ⊎ (P → ⊥)
 by_test true P d = inl (d.0 refl)
 by_test false P d = inr (λ p. let wrong : false ≡ true = d.1 p in absurd (cc))
 
-kept_elsewhere : (path given at : List ℕ) (before after : Paths) → Leaves path (new_path path) given before after → IsKept (new_path path) before after → (at ≡ path → ⊥) → (at ≡ new_path path) ⊎ (at ≡ new_path path → ⊥) → Keeps before after at
+kept_elsewhere : (path given at : List ℕ) (before after : Paths) → Leaves path (new_path path) given before after → IsKept (new_path path) before after
+    → (at ≡ path → ⊥) → (at ≡ new_path path) ⊎ (at ≡ new_path path → ⊥) → Keeps before after at
 kept_elsewhere path given at before after leaves new apart (inl e) = rw e (kept_new path before after new)
 kept_elsewhere path given at before after leaves new apart (inr e) = same (leaves.others at apart e)
 
-kept_at : (path given old at : List ℕ) (mode : ℕ) (before after : Paths) → before path ≡ Some (file mode old) → Leaves path (new_path path) given before after → IsKept (new_path path) before after → Relaid (chars old) (chars given) → (at ≡ path) ⊎ (at ≡ path → ⊥) → Keeps before after at
+kept_at : (path given old at : List ℕ) (mode : ℕ) (before after : Paths) → before path ≡ Some (file mode old) → Leaves path (new_path path) given before after
+    → IsKept (new_path path) before after → Relaid (chars old) (chars given) → (at ≡ path) ⊎ (at ≡ path → ⊥) → Keeps before after at
 kept_at path given old at mode before after held leaves new r (inl e) = rw e (kept_file path given old mode before after held leaves.whole r)
-kept_at path given old at mode before after held leaves new r (inr e) = kept_elsewhere path given at before after leaves new e (by_test (bytes_eq at (new_path path)) (at ≡ new_path path) (bytes_eq-Decides at (new_path path)))
+kept_at path given old at mode before after held leaves new r (inr e) =
+    kept_elsewhere path given at before after leaves new e (by_test (bytes_eq at (new_path path)) (at ≡ new_path path) (bytes_eq-Decides at (new_path path)))
 
 -- What replacing a file by its text laid out leaves.
-pub kept_replaced : (path given old : List ℕ) (before after : Paths) → bytes_of (before path) ≡ Some old → Leaves path (new_path path) given before after → IsKept (new_path path) before after → Relaid (chars old) (chars given) → KeepsAll before after
+pub kept_replaced : (path given old : List ℕ) (before after : Paths) → bytes_of (before path) ≡ Some old → Leaves path (new_path path) given before after
+    → IsKept (new_path path) before after → Relaid (chars old) (chars given) → KeepsAll before after
 kept_replaced path given old before after bytes leaves new r at =
     let held = some_file (before path) old bytes in
     kept_at path given old at held.0 before after held.1 leaves new r (by_test (bytes_eq at path) (at ≡ path) (bytes_eq-Decides at path))

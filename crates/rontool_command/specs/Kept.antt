@@ -24,7 +24,8 @@ pub data Relaid : Text → Text → Type 0 where
 -- What a path has afterwards: what it had; its file's text laid out, under the same permissions; or, where nothing stood, a new file's beginning.
 pub data Keeps (before after : Paths) (at : List ℕ) : Type 0 where
   same : after at ≡ before at → Keeps before after at
-  relaid : (mode : ℕ) (old new : List ℕ) → before at ≡ Some (file mode old) → after at ≡ Some (file mode new) → Relaid (chars old) (chars new) → Keeps before after at
+  relaid : (mode : ℕ) (old new : List ℕ) → before at ≡ Some (file mode old) → after at ≡ Some (file mode new) → Relaid (chars old) (chars new)
+      → Keeps before after at
   begun : (path : List ℕ) → at ≡ new_path path → before at ≡ None → Keeps before after at
 
 -- so at each path

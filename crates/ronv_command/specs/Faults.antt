@@ -20,11 +20,13 @@ use Rattle.ronv_command.specs.Run.{command_table, command_layout, RewritesBy}
 
 -- Reading all that is left of the input, where that is known, refuses it so; or the input has failed, or no memory was found.
 abbrev pub RefusesInput : Table → Option (List ℕ) → SpannedError → Type 0
-RefusesInput table left refused = IsIoOrMemory refused.code ⊎ ((read : List ℕ) × IfSome left (λ bytes. bytes ≡ read) × ReadsGiven no_extensions (Some 128) table read (Err refused))
+RefusesInput table left refused = IsIoOrMemory refused.code
+    ⊎ ((read : List ℕ) × IfSome left (λ bytes. bytes ≡ read) × ReadsGiven no_extensions (Some 128) table read (Err refused))
 
 -- What is left of the input, where that is known, spells data whose layout is refused so; or no memory was found.
 abbrev pub RefusesData : Table → Config → Option (List ℕ) → Error → Type 0
-RefusesData table layout left e = (e ≡ OutOfMemory) ⊎ ((read : List ℕ) × IfSome left (λ bytes. bytes ≡ read) × (d : plain.Data) × DocumentWithin no_extensions (Some 128) table (chars read) d × RefusesText layout (Some 128) d e × HoldsName (first_refused d) e)
+RefusesData table layout left e = (e ≡ OutOfMemory) ⊎ ((read : List ℕ) × IfSome left (λ bytes. bytes ≡ read) × (d : plain.Data)
+    × DocumentWithin no_extensions (Some 128) table (chars read) d × RefusesText layout (Some 128) d e × HoldsName (first_refused d) e)
 
 -- A fault of the output comes once there is a text for it.
 abbrev pub IsFaultBy : Table → Config → Option (List ℕ) → CommandFault → Type 0

@@ -26,7 +26,8 @@ command_layout c = no_config
 
 -- One text spells data of the table within the default limit. The other is the data's layout, and spells its normal form.
 abbrev pub Rewrites : Table → Config → Text → Text → Type 0
-Rewrites table layout read written = (d : plain.Data) × DocumentWithin no_extensions (Some 128) table read d × (written ≡ full_layout no_extensions layout d) × SpellsNormalForm no_extensions layout d written
+Rewrites table layout read written = (d : plain.Data) × DocumentWithin no_extensions (Some 128) table read d × (written ≡ full_layout no_extensions layout d)
+    × SpellsNormalForm no_extensions layout d written
 
 -- What is left of the input, where that is known, is a text, and the other text is its rewriting.
 abbrev pub RewritesBy : Table → Config → Option (List ℕ) → Text → Type 0

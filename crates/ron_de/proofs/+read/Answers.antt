@@ -1,4 +1,5 @@
--- The answers of the reading functions: a table of their names, which for a cycle of calls has to stand in one file. Each answer is from the file of its module.
+-- The answers of the reading functions: a table of their names, which for a cycle of calls has to stand in one file. Each answer is from the file of its
+-- module.
 mod Structs
 mod Elements
 mod Lists
@@ -594,7 +595,8 @@ enums::read_enum-returns = Enums.enums::read_enum-returns
 pub enums::read_variant_content-returns-in-Unit-clause-value : goal.enums::read_variant_content-returns-in-Unit-clause-value
 enums::read_variant_content-returns-in-Unit-clause-value = Enums.enums::read_variant_content-returns-in-Unit-clause-value
 
-pub enums::read_variant_content-returns-in_err-pass_gap-in-Newtype-clause-value : goal.enums::read_variant_content-returns-in_err-pass_gap-in-Newtype-clause-value
+pub enums::read_variant_content-returns-in_err-pass_gap-in-Newtype-clause-value :
+    goal.enums::read_variant_content-returns-in_err-pass_gap-in-Newtype-clause-value
 enums::read_variant_content-returns-in_err-pass_gap-in-Newtype-clause-value = Enums.enums::read_variant_content-returns-in_err-pass_gap-in-Newtype-clause-value
 
 pub enums::read_variant_content-returns-in_err-pass_gap-in-Tuple-clause-value : goal.enums::read_variant_content-returns-in_err-pass_gap-in-Tuple-clause-value
@@ -1053,7 +1055,8 @@ enums::read_enum-returns-in_err-variant-clause-turns = Enums.enums::read_enum-re
 pub enums::read_variant_content-returns-in-Unit-clause-turns : goal.enums::read_variant_content-returns-in-Unit-clause-turns
 enums::read_variant_content-returns-in-Unit-clause-turns = Enums.enums::read_variant_content-returns-in-Unit-clause-turns
 
-pub enums::read_variant_content-returns-in_err-pass_gap-in-Newtype-clause-turns : goal.enums::read_variant_content-returns-in_err-pass_gap-in-Newtype-clause-turns
+pub enums::read_variant_content-returns-in_err-pass_gap-in-Newtype-clause-turns :
+    goal.enums::read_variant_content-returns-in_err-pass_gap-in-Newtype-clause-turns
 enums::read_variant_content-returns-in_err-pass_gap-in-Newtype-clause-turns = Enums.enums::read_variant_content-returns-in_err-pass_gap-in-Newtype-clause-turns
 
 pub enums::read_variant_content-returns-then-not-take-clause-turns : goal.enums::read_variant_content-returns-then-not-take-clause-turns

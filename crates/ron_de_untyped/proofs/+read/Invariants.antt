@@ -54,7 +54,8 @@ decreases-groups::read_inside l = 20 * length l.cursor.now.rest + 13
 abbrev pub invariant-items::read_items-items : goal.invariant-items::read_items-items
 invariant-items::read_items-items l =
     (l.cursor.text ≡ l.initial.cursor.text)
-    × ItemsRead (λ room. read_below (unwraps l.context) room) tree_of l.close (below_shrinks (unwraps l.context)) l.context.limit l.more l.items.items l.initial.cursor l.cursor
+    × ItemsRead (λ room. read_below (unwraps l.context) room) tree_of l.close (below_shrinks (unwraps l.context)) l.context.limit l.more l.items.items
+    l.initial.cursor l.cursor
     × All HoldsOrder l.items.items
     × (CountsTo l.more l.initial.cursor l.cursor × Grows l.initial.cursor l.cursor)
 
@@ -64,7 +65,8 @@ decreases-items::read_items-items l = cond l.more (suc (length l.cursor.rest)) 0
 abbrev pub invariant-entries::read_entries-pairs : goal.invariant-entries::read_entries-pairs
 invariant-entries::read_entries-pairs l =
     (l.cursor.text ≡ l.initial.cursor.text)
-    × ItemsRead (λ room. read_entry l.keys (unwraps l.context) room) pair_tree (close_of l.keys) (entry_shrinks l.keys (unwraps l.context)) l.context.limit l.more l.pairs.items l.initial.cursor l.cursor
+    × ItemsRead (λ room. read_entry l.keys (unwraps l.context) room) pair_tree (close_of l.keys) (entry_shrinks l.keys (unwraps l.context)) l.context.limit
+    l.more l.pairs.items l.initial.cursor l.cursor
     × All HoldsPairOrder l.pairs.items
     × (CountsTo l.more l.initial.cursor l.cursor × Grows l.initial.cursor l.cursor)
 

@@ -19,7 +19,9 @@ use Rattle.ron_value.specs.Tree.{Tree}
 use Rattle.ron_value.specs.Tree as tree
 use Rattle.ron_spec_grammar.specs.Shapes.Unit.{EmptyBrackets}
 use Rattle.ron_spec_grammar.specs.Values.Trees.{Entry}
-use Rattle.ron_spec_grammar.specs.Values.Grammar.{Form, a_character, a_string, a_byte_string, a_list, a_map, a_group, a_number, a_word, form, character_value, text_value, bytes_value, unit_value, interval_value, list_value, map_value, fields_value, Values, FieldEntry, PairEntry, FieldsInside, ItemsInside, RoundGroup, WordValue, OneValue, entry_with}
+use Rattle.ron_spec_grammar.specs.Values.Grammar.{Form, a_character, a_string, a_byte_string, a_list, a_map, a_group, a_number, a_word, form, character_value}
+use Rattle.ron_spec_grammar.specs.Values.Grammar.{text_value, bytes_value, unit_value, interval_value, list_value, map_value, fields_value, Values, FieldEntry}
+use Rattle.ron_spec_grammar.specs.Values.Grammar.{PairEntry, FieldsInside, ItemsInside, RoundGroup, WordValue, OneValue, entry_with}
 use Rattle.ron_spec_grammar.proofs.Shapes.Units.{first_empty}
 use Rattle.ron_spec_grammar.proofs.Values.Telling.{Starts, items_first, NoColon}
 use Rattle.ron_spec_grammar.proofs.Values.Forms.{Is, char_form, string_form, byte_string_form, marks_form, number_form, value_words, fixed_form, name_form}
@@ -39,10 +41,12 @@ module _ (m : ℕ) (V : ℕ → Values) where
   FormLang a_word = WordValue false m V
 
   group_first : First (Is a_group) (Or (Means EmptyBrackets unit_value) (When (λ s. not (begins_with (codes "()") s)) (RoundGroup m (V 1))))
-  group_first = first_or (first_means (first_empty (Is a_group) marks_form.2)) (first_when (λ s. not (begins_with (codes "()") s)) (first_then (first_mark _ left_parenthesis done marks_form.2)))
+  group_first = first_or (first_means (first_empty (Is a_group) marks_form.2))
+      (first_when (λ s. not (begins_with (codes "()") s)) (first_then (first_mark _ left_parenthesis done marks_form.2)))
 
   words_first : First (Is a_word) (WordValue false m V)
-  words_first = first_or (fixed_form (codes "true") (tree.boolean true) value_words.0) (first_or (fixed_form (codes "false") (tree.boolean false) value_words.1) (first_or (fixed_form (codes "None") tree.none value_words.2)
+  words_first = first_or (fixed_form (codes "true") (tree.boolean true) value_words.0) (first_or
+      (fixed_form (codes "false") (tree.boolean false) value_words.1) (first_or (fixed_form (codes "None") tree.none value_words.2)
       (first_or (first_then (fixed_form (codes "Some") done value_words.3)) (first_or (first_then name_form) (first_means name_form)))))
 
   of_form : (t next : Text) (v : Tree) → OneValue false m V t next v → (f : Form) × (form (t ++ next) ≡ f) × FormLang f t next v
@@ -55,7 +59,8 @@ module _ (m : ℕ) (V : ℕ → Values) where
   of_form t next v (inr (inr (inr (inr (inr (inr (inl z))))))) = (a_number, number_form.holds t next z.value z.spelled, z)
   of_form t next v (inr (inr (inr (inr (inr (inr (inr z))))))) = (a_word, words_first.holds t next v z, z)
 
-  pub agree_form : {A : Type 0} {L : Lang A} {F : Text → Type 0} {R : A → Tree → Type 0} (f : Form) → First (Is f) L → Agree L (FormLang f) F R → Agree L (OneValue false m V) F R
+  pub agree_form : {A : Type 0} {L : Lang A} {F : Text → Type 0} {R : A → Tree → Type 0} (f : Form) → First (Is f) L → Agree L (FormLang f) F R
+      → Agree L (OneValue false m V) F R
   agree_form f h k = record {
     at = λ t next u other a b e s n z g y o.
         let w = of_form u other b y in
@@ -66,7 +71,17 @@ module _ (m : ℕ) (V : ℕ → Values) where
 pub any_number_form : First (Is a_number) AnyInteger
 unfolding form
 any_number_form = first_any_integer (Is a_number) (λ s. refl) (λ s. refl) (λ s. refl)
-    (λ c s e. rw (apart is_ascii_digit 39 c refl e, apart is_ascii_digit 34 c refl e, apart is_ascii_digit 114 c refl e, apart is_ascii_digit 98 c refl e, apart is_ascii_digit 91 c refl e, apart is_ascii_digit 123 c refl e, apart is_ascii_digit 40 c refl e, apart is_ascii_digit 46 c refl e, e) refl)
+    (λ c s e. rw (
+      apart is_ascii_digit 39 c refl e,
+      apart is_ascii_digit 34 c refl e,
+      apart is_ascii_digit 114 c refl e,
+      apart is_ascii_digit 98 c refl e,
+      apart is_ascii_digit 91 c refl e,
+      apart is_ascii_digit 123 c refl e,
+      apart is_ascii_digit 40 c refl e,
+      apart is_ascii_digit 46 c refl e,
+      e,
+    ) refl)
 
 -- ---- fields
 
@@ -75,7 +90,8 @@ fields_open V before = record { holds = λ t next d z. go t next z.value d z.spe
   where
     go : (t next : Text) (ps : List Entry) (d : Tree) → Items (λ _ _. FieldEntry V) before t next ps → fields_value ps ≡ Some d → opens_field (t ++ next) ≡ true
     go t next [] d z e = absurd (cc)
-    go t next (p ∷ ps) d z e = items_first (λ _ _. FieldEntry V) (λ s. opens_field s ≡ true) before (field_opens (λ n gap. Means (V false gap) (entry_with (tree.text (encode_utf8_all n))))) t next p ps z
+    go t next (p ∷ ps) d z e = items_first (λ _ _. FieldEntry V) (λ s. opens_field s ≡ true) before
+        (field_opens (λ n gap. Means (V false gap) (entry_with (tree.text (encode_utf8_all n))))) t next p ps z
 
 pub named_unnamed : (n : Text) → Starts opens_field false (Named n) NoColon
 unfolding opens_field

@@ -1,5 +1,6 @@
 -- Shapes that hold no others agree with what is read without a schema: for `Agreement.Levels`.
-use Rattle.std.proofs.Common.{◌≡◌, ℕ, Bool, true, false, ◌&&◌, List, ◌++◌, codes, encode_utf8_all, chars, inl, inr, Option, Some, None, cond, slice_get, refl, sym, ap, subst, ◌∙◌}
+use Rattle.std.proofs.Common.{◌≡◌, ℕ, Bool, true, false, ◌&&◌, List, ◌++◌, codes, encode_utf8_all, chars, inl, inr, Option, Some, None, cond, slice_get, refl}
+use Rattle.std.proofs.Common.{sym, ap, subst, ◌∙◌}
 use Rattle.std.proofs.lemmas.Str.{chars-encodes}
 use lib.Utf8.{scalars}
 use Rattle.ron_spec_words.specs.Characters.{Text}
@@ -40,7 +41,8 @@ abbrev pub Becomes : List Shape → ℕ → Data → Tree → Type 0
 Becomes schema i d v = (e : Data) → into schema i v ≡ Some e → e ≡ d
 
 -- what is spelled by a schema is spelled without one, as a value that is related to it
-pub agree_spelled : {A B : Type 0} {L : Lang A} {M : Lang B} {F : Text → Type 0} {R : A → B → Type 0} → Agree M M F (λ a b. a ≡ b) → ((t next : Text) (a : A) → scalars (t ++ next) ≡ true → L t next a → (b : B) × M t next b × R a b) → Agree L M F R
+pub agree_spelled : {A B : Type 0} {L : Lang A} {M : Lang B} {F : Text → Type 0} {R : A → B → Type 0} → Agree M M F (λ a b. a ≡ b)
+    → ((t next : Text) (a : A) → scalars (t ++ next) ≡ true → L t next a → (b : B) × M t next b × R a b) → Agree L M F R
 agree_spelled {R = R} same h = record {
   at = λ t next u other a b e s n z f y g.
       let k = h t next a s z in
@@ -78,7 +80,8 @@ module _ (m : ℕ) (V : ℕ → Values) where
     agree_char s = agree_spelled same (λ t next d _ z. (
       tree.character z.value,
       inl (record { value = z.value; spelled = z.spelled; meant = refl }),
-      λ e r. some_is (char_of z.value) e d (into schema i (tree.character z.value)) (sym (ap (λ o. or_itself (tree.character z.value) o (character_as z.value o)) s)) r z.meant,
+      λ e r. some_is (char_of z.value) e d (into schema i (tree.character z.value))
+          (sym (ap (λ o. or_itself (tree.character z.value) o (character_as z.value o)) s)) r z.meant,
     ))
 
     pub agree_str : slice_get schema i ≡ Some str → Agree (Means String str_data) OneOf FollowsValue (Becomes schema i)
@@ -86,14 +89,16 @@ module _ (m : ℕ) (V : ℕ → Values) where
       tree.text (encode_utf8_all z.value),
       inr (inl (record { value = z.value; spelled = z.spelled; meant = refl })),
       λ e r. some_is (str_of z.value) e d (into schema i (tree.text (encode_utf8_all z.value)))
-          (sym (ap (λ o. or_itself (tree.text (encode_utf8_all z.value)) o (text_as (chars (encode_utf8_all z.value)) o)) s ∙ ap (λ c. Some (str_of c)) (chars-encodes z.value (string_scalars t next z.value u z.spelled)))) r z.meant,
+          (sym (ap (λ o. or_itself (tree.text (encode_utf8_all z.value)) o (text_as (chars (encode_utf8_all z.value)) o)) s
+          ∙ ap (λ c. Some (str_of c)) (chars-encodes z.value (string_scalars t next z.value u z.spelled)))) r z.meant,
     ))
 
     pub agree_byte_string : slice_get schema i ≡ Some bytes → Agree (Means ByteString bytes_data) OneOf FollowsValue (Becomes schema i)
     agree_byte_string s = agree_spelled same (λ t next d _ z. (
       tree.bytes z.value,
       inr (inr (inl (record { value = z.value; spelled = z.spelled; meant = refl }))),
-      λ e r. some_is (bytes_of z.value) e d (into schema i (tree.bytes z.value)) (sym (ap (λ o. or_itself (tree.bytes z.value) o (bytes_as z.value o)) s)) r z.meant,
+      λ e r. some_is (bytes_of z.value) e d (into schema i (tree.bytes z.value)) (sym (ap (λ o. or_itself (tree.bytes z.value) o (bytes_as z.value o)) s)) r
+          z.meant,
     ))
 
     pub agree_unit : slice_get schema i ≡ Some unit → Agree (Means EmptyBrackets unit_data) OneOf FollowsValue (Becomes schema i)
@@ -112,7 +117,8 @@ module _ (m : ℕ) (V : ℕ → Values) where
 
   -- ---- numbers
 
-  module _ {C : Type 0} (f : Numeral → Option C) (R : C → Tree → Type 0) (h : (n : Numeral) (c : C) (w : Width) → f n ≡ Some c → R c (tree.number w (numeral_value n))) where
+  module _ {C : Type 0} (f : Numeral → Option C) (R : C → Tree → Type 0)
+      (h : (n : Numeral) (c : C) (w : Width) → f n ≡ Some c → R c (tree.number w (numeral_value n))) where
     number_made : (k n : Numeral) (c : C) (v : Tree) → k ≡ n → f k ≡ Some c → number_tree n ≡ Some v → R c v
     number_made k n c v e q r = let w = mapped_from (λ w. tree.number w (numeral_value n)) _ v r in subst (R c) w.2 (h n c w.0 (ap f (sym e) ∙ q))
 
@@ -122,7 +128,8 @@ module _ (m : ℕ) (V : ℕ → Values) where
         (agree_means interval_value (λ k z v e r c q. number_made k k c v refl q (ap interval_value (sym e) ∙ r)) agree_one))
 
   -- a number or a range by a schema, where whatever they make becomes what their value does
-  pub agree_interval : {C : Type 0} (f : Interval → Option C) (R : C → Tree → Type 0) → ((z : Interval) (c : C) (v : Tree) → f z ≡ Some c → interval_value z ≡ Some v → R c v) → Agree (Means NumberOrRange f) OneOf FollowsValue R
+  pub agree_interval : {C : Type 0} (f : Interval → Option C) (R : C → Tree → Type 0)
+      → ((z : Interval) (c : C) (v : Tree) → f z ≡ Some c → interval_value z ≡ Some v → R c v) → Agree (Means NumberOrRange f) OneOf FollowsValue R
   agree_interval {C} f R h = agree_form m V a_number (first_means number_form)
       (agree_meant {R = λ k v. (c : C) → f k ≡ Some c → R c v} f (λ k v c r q. r c q)
       (agree_means interval_value (λ k z v e r c q. h k c v q (ap interval_value e ∙ r)) (agree_word word_number_or_range)))
@@ -135,9 +142,11 @@ module _ (m : ℕ) (V : ℕ → Values) where
   same_some : {A : Type 0} (a b : A) (o : Option A) → o ≡ Some a → o ≡ Some b → b ≡ a
   same_some a b o e f = cc
 
-  pub agree_int : (schema : List Shape) (i : ℕ) (w : Width) → slice_get schema i ≡ Some (int w) → Agree (Means AnyInteger (in_width w)) OneOf FollowsValue (Becomes schema i)
+  pub agree_int : (schema : List Shape) (i : ℕ) (w : Width) → slice_get schema i ≡ Some (int w)
+      → Agree (Means AnyInteger (in_width w)) OneOf FollowsValue (Becomes schema i)
   agree_int schema i w s = agree_number (in_width w) (Becomes schema i) (λ n d v q e r.
-      (let p = fits_both (suits w n.suffix) (fits w (numeral_value n)) d e (Some (int_of w (numeral_value n))) (Some (int_of w (numeral_value n))) q (sym (ap (λ o. or_itself (tree.number v (numeral_value n)) o (number_as (numeral_value n) o)) s) ∙ r) in
+      (let p = fits_both (suits w n.suffix) (fits w (numeral_value n)) d e (Some (int_of w (numeral_value n))) (Some (int_of w (numeral_value n))) q
+      (sym (ap (λ o. or_itself (tree.number v (numeral_value n)) o (number_as (numeral_value n) o)) s) ∙ r) in
       same_some d e (Some (int_of w (numeral_value n))) p.0 p.1))
 
   -- a byte, where the value is one
@@ -146,4 +155,5 @@ module _ (m : ℕ) (V : ℕ → Values) where
 
   pub agree_byte : (room : ℕ) → Agree (ByteItem room) OneOf FollowsValue IsByte
   agree_byte room = agree_within (λ t next a z. z.1) (λ t next b z. z) (agree_number as_byte IsByte (λ n b v q c r.
-      (let p = fits_both (suits U8 n.suffix) (fits U8 (numeral_value n)) b c (natural (numeral_value n)) (natural (numeral_value n)) q r in same_some b c (natural (numeral_value n)) p.0 p.1)))
+      (let p = fits_both (suits U8 n.suffix) (fits U8 (numeral_value n)) b c (natural (numeral_value n)) (natural (numeral_value n)) q r in
+      same_some b c (natural (numeral_value n)) p.0 p.1)))

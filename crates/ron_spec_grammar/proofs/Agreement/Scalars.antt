@@ -46,7 +46,8 @@ tail_one c = cond (c == 110) (Some 10) (tail_two c)
 
 escape_scalar : (c d : ℕ) → scalar c ≡ true → escape_meaning c ≡ Some d → scalar d ≡ true
 escape_scalar c d k e =
-    step ((c == 39) || ((c == 34) || (c == 92))) c (tail_one c) d e k (λ e. step (c == 110) 10 (tail_two c) d e refl (λ e. step (c == 114) 13 (tail_three c) d e refl
+    step ((c == 39) || ((c == 34) || (c == 92))) c (tail_one c) d e k (λ e. step (c == 110) 10 (tail_two c) d e refl (λ e.
+    step (c == 114) 13 (tail_three c) d e refl
     (λ e. step (c == 116) 9 (tail_four c) d e refl (λ e. step (c == 48) 0 None d e refl (λ e. absurd (let x : None ≡ Some d = e in cc))))))
 
 unicode_scalar : (t : Text) (c : ℕ) → named_character t ≡ Some c → scalar c ≡ true
@@ -59,8 +60,10 @@ unicode_scalar t c e = go _ (scalar (place_value 16 t)) refl e
 
 escapes : (t next : Text) (c : ℕ) → Escape HexCharacter UnicodeEscape t next c → scalars t ≡ true → scalar c ≡ true
 escapes t next c (inl z) s = z.0
-escapes t next c (inr (inl z)) s = subst (λ y. scalar y ≡ true) z.spelled.spelled.spelled.second.1 (unicode_scalar z.spelled.spelled.spelled.first.value z.spelled.spelled.spelled.value z.spelled.spelled.spelled.first.meant)
-escapes t next c (inr (inr z)) s = escape_scalar z.spelled.value c (first_of z.spelled.value [] (subst (λ v. scalars v ≡ true) z.spelled.spelled (first_of 92 z.rest (subst (λ v. scalars v ≡ true) z.split s)).1)).0 z.spelled.meant
+escapes t next c (inr (inl z)) s = subst (λ y. scalar y ≡ true) z.spelled.spelled.spelled.second.1
+    (unicode_scalar z.spelled.spelled.spelled.first.value z.spelled.spelled.spelled.value z.spelled.spelled.spelled.first.meant)
+escapes t next c (inr (inr z)) s = escape_scalar z.spelled.value c (first_of z.spelled.value []
+    (subst (λ v. scalars v ≡ true) z.spelled.spelled (first_of 92 z.rest (subst (λ v. scalars v ≡ true) z.split s)).1)).0 z.spelled.meant
 
 -- ---- strings
 
@@ -75,16 +78,20 @@ string_piece t next a (inr (inr z)) s = one_is z.value a _ z.meant (first_of z.v
 
 pieces_scalar : (t next a : Text) → Pieces (StringPiece itself StringEscape) t next a → scalars t ≡ true → scalars a ≡ true
 pieces_scalar _ _ _ close s = refl
-pieces_scalar _ next _ (piece t u _ a b z more) s = scalars_both a b (string_piece t (u ++ next) a z (scalars_before t u s)) (pieces_scalar u next b more (scalars_behind t u s))
+pieces_scalar _ next _ (piece t u _ a b z more) s =
+    scalars_both a b (string_piece t (u ++ next) a z (scalars_before t u s)) (pieces_scalar u next b more (scalars_behind t u s))
 
 pub string_scalars : (t next s : Text) → scalars (t ++ next) ≡ true → String t next s → scalars s ≡ true
-string_scalars t next s k (inl z) = pieces_scalar z.rest next s z.spelled (first_of 34 z.rest (subst (λ v. scalars v ≡ true) z.split (scalars_before t next k))).1
+string_scalars t next s k (inl z) =
+    pieces_scalar z.rest next s z.spelled (first_of 34 z.rest (subst (λ v. scalars v ≡ true) z.split (scalars_before t next k))).1
 string_scalars t next s k (inr z) =
     let inner = subst (λ v. scalars v ≡ true) z.spelled.same (first_of 114 z.rest (subst (λ v. scalars v ≡ true) z.split (scalars_before t next k))).1 in
-    scalars_before s (34 ∷ hashes z.spelled.count) (first_of 34 (s ++ 34 ∷ hashes z.spelled.count) (scalars_behind (hashes z.spelled.count) (34 ∷ (s ++ 34 ∷ hashes z.spelled.count)) inner)).1
+    scalars_before s (34 ∷ hashes z.spelled.count)
+    (first_of 34 (s ++ 34 ∷ hashes z.spelled.count) (scalars_behind (hashes z.spelled.count) (34 ∷ (s ++ 34 ∷ hashes z.spelled.count)) inner)).1
 
 -- ---- names
 
 pub name_scalars : (t next n : Text) → scalars (t ++ next) ≡ true → Name t next n → scalars n ≡ true
-name_scalars t next n k (inl z) = subst (λ v. scalars v ≡ true) z.spelled.spelled.same (first_of 35 z.spelled.rest (subst (λ v. scalars v ≡ true) z.spelled.split (first_of 114 z.rest (subst (λ v. scalars v ≡ true) z.split (scalars_before t next k))).1)).1
+name_scalars t next n k (inl z) = subst (λ v. scalars v ≡ true) z.spelled.spelled.same (first_of 35 z.spelled.rest
+    (subst (λ v. scalars v ≡ true) z.spelled.split (first_of 114 z.rest (subst (λ v. scalars v ≡ true) z.split (scalars_before t next k))).1)).1
 name_scalars t next n k (inr z) = subst (λ v. scalars v ≡ true) z.1.spelled.same (scalars_before t next k)

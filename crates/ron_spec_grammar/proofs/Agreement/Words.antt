@@ -24,7 +24,13 @@ abbrev pub Ends : Text → Type 0
 Ends next = begins is_name_mark next ≡ false
 
 mark_solid : (c : ℕ) (s : Text) → is_name_mark c ≡ true → Solid (c ∷ s)
-mark_solid c s e = solid_class is_name_mark (record { stop = (refl, refl, refl, refl, refl); range = (refl, (refl, (refl, (refl, (refl, tt))))); blank = (refl, refl, refl, refl, refl, refl); slash = refl; hash = refl }) c s e
+mark_solid c s e = solid_class is_name_mark (record {
+  stop = (refl, refl, refl, refl, refl);
+  range = (refl, (refl, (refl, (refl, (refl, tt)))));
+  blank = (refl, refl, refl, refl, refl, refl);
+  slash = refl;
+  hash = refl;
+}) c s e
 
 -- no such mark begins behind a gap, and none begins here
 pub ends_behind : (next : Text) → Ends (skip next) → Ends next
@@ -57,7 +63,8 @@ bracket_ends gap s g e = ends_behind (gap ++ s) (subst Ends (sym (skip-append ga
 
 pub untyped_is_name : (t next n : Text) → UntypedName t next n → Ends next → Name t next n
 untyped_is_name t next n (inl z) e = inl z
-untyped_is_name t next n (inr z) e = inr (z.spelled.0, record { spelled = subst (λ v. Run _ _ t next v) (go (list_any (same_text z.value) value_words) z.meant) z.spelled.1; other = e })
+untyped_is_name t next n (inr z) e =
+    inr (z.spelled.0, record { spelled = subst (λ v. Run _ _ t next v) (go (list_any (same_text z.value) value_words) z.meant) z.spelled.1; other = e })
   where
     go : (b : Bool) → cond b None (Some z.value) ≡ Some n → z.value ≡ n
     go true k = absurd (cc)
@@ -79,10 +86,15 @@ one_name : (t next u other m n : Text) → t ++ next ≡ u ++ other → Name t n
 one_name t next u other m n e z y = got_both m n next other (sym (word_name.complete t next m z).answer ∙ ap name e ∙ (word_name.complete u other n y).answer)
 
 pub agree_names : (n : Text) → Agree (Named n) UntypedName Ends (λ m v. m ≡ n)
-agree_names n = record { at = λ t next u other m v e _ _ z _ y g. (let p = named_is n t next m z in ((one_name t next u other n v e p.0 (untyped_is_name u other v y g)).0, p.1)) }
+agree_names n = record {
+  at = λ t next u other m v e _ _ z _ y g. (let p = named_is n t next m z in ((one_name t next u other n v e p.0 (untyped_is_name u other v y g)).0, p.1));
+}
 
 pub agree_fixed : {A : Type 0} (n w : Text) (a : A) → IsValueWord w → Agree (Named n) (FixedWord w a) Ends (λ m b. (m ≡ n) × (a ≡ b))
-agree_fixed n w a h = record { at = λ t next u other m b e _ _ z _ y g. (let p = named_is n t next m z in ((one_name t next u other n w e p.0 (fixed_is_name w u other a b h y g)).0, (p.1, y.value))) }
+agree_fixed n w a h = record {
+  at = λ t next u other m b e _ _ z _ y g.
+      (let p = named_is n t next m z in ((one_name t next u other n w e p.0 (fixed_is_name w u other a b h y g)).0, (p.1, y.value)));
+}
 
 pub agree_ending : {A B : Type 0} {L : Lang A} {M : Lang B} {R : A → B → Type 0} → Agree L M Ends R → Agree L M FollowsValue R
 agree_ending h = record { at = λ t next u other a b e s n z f y g. h.at t next u other a b e s n z (value_ends next f) y (value_ends other g) }
@@ -91,23 +103,28 @@ no_bracket : (next gap s : Text) → FollowsValue next → next ≡ gap ++ s →
 no_bracket next gap s f e g k = let x : true ≡ false = sym f ∙ ap ends_value (ap skip e ∙ skip-append gap s g) ∙ (bracket_at s k).1 in cc
 
 -- a word alone, and a word before a bracket
-pub alone_bracket : {A B C : Type 0} {L : Lang A} {W : Lang B} {G : B → Text → Lang C} {S : A → B → Type 0} {R : A → C → Type 0} → Agree L W Ends S → ((b : B) (gap : Text) → First (λ s. is_at 40 s ≡ true) (G b gap)) → Agree L (Then W G) FollowsValue R
+pub alone_bracket : {A B C : Type 0} {L : Lang A} {W : Lang B} {G : B → Text → Lang C} {S : A → B → Type 0} {R : A → C → Type 0} → Agree L W Ends S
+    → ((b : B) (gap : Text) → First (λ s. is_at 40 s ≡ true) (G b gap)) → Agree L (Then W G) FollowsValue R
 alone_bracket h k = record {
   at = λ t next u other a c e s n z f y g.
       let o = (k y.value y.gap).holds y.right other c y.second in
-      let p = h.at t next y.left (y.gap ++ (y.right ++ other)) a y.value (e ∙ ap (λ v. v ++ other) y.split ∙ three y.left y.gap y.right other) s n z (value_ends next f) y.first (bracket_ends y.gap (y.right ++ other) y.is_gap o) in
+      let p = h.at t next y.left (y.gap ++ (y.right ++ other)) a y.value (e ∙ ap (λ v. v ++ other) y.split ∙ three y.left y.gap y.right other) s n z
+      (value_ends next f) y.first (bracket_ends y.gap (y.right ++ other) y.is_gap o) in
       absurd (no_bracket next y.gap (y.right ++ other) f p.0 y.is_gap o);
 }
 
-pub bracket_alone : {A B C : Type 0} {L : Lang A} {W : Lang B} {G : A → Text → Lang C} {S : A → B → Type 0} {R : C → B → Type 0} → Agree L W Ends S → ((a : A) (gap : Text) → First (λ s. is_at 40 s ≡ true) (G a gap)) → Agree (Then L G) W FollowsValue R
+pub bracket_alone : {A B C : Type 0} {L : Lang A} {W : Lang B} {G : A → Text → Lang C} {S : A → B → Type 0} {R : C → B → Type 0} → Agree L W Ends S
+    → ((a : A) (gap : Text) → First (λ s. is_at 40 s ≡ true) (G a gap)) → Agree (Then L G) W FollowsValue R
 bracket_alone h k = record {
   at = λ t next u other c b e s n z f y g.
       let o = (k z.value z.gap).holds z.right next c z.second in
       let w : t ++ next ≡ z.left ++ (z.gap ++ (z.right ++ next)) = ap (λ v. v ++ next) z.split ∙ three z.left z.gap z.right next in
-      let p = h.at z.left (z.gap ++ (z.right ++ next)) u other z.value b (sym w ∙ e) (subst (λ v. scalars v ≡ true) w s) (subst (λ v. skip v ≡ v) w n) z.first (bracket_ends z.gap (z.right ++ next) z.is_gap o) y (value_ends other g) in
+      let p = h.at z.left (z.gap ++ (z.right ++ next)) u other z.value b (sym w ∙ e) (subst (λ v. scalars v ≡ true) w s) (subst (λ v. skip v ≡ v) w n) z.first
+      (bracket_ends z.gap (z.right ++ next) z.is_gap o) y (value_ends other g) in
       absurd (no_bracket other z.gap (z.right ++ next) g (sym p.0) z.is_gap o);
 }
 
 -- both before a bracket
-pub first_follows : {B : Type 0} {M : Lang B} → First (λ s. is_at 40 s ≡ true) M → (gap right next : Text) (b : B) → LongGap gap (right ++ next) → M right next b → FollowsValue next → Ends (gap ++ (right ++ next))
+pub first_follows : {B : Type 0} {M : Lang B} → First (λ s. is_at 40 s ≡ true) M → (gap right next : Text) (b : B) → LongGap gap (right ++ next)
+    → M right next b → FollowsValue next → Ends (gap ++ (right ++ next))
 first_follows h gap right next b g z f = bracket_ends gap (right ++ next) g (h.holds right next b z)

@@ -17,7 +17,8 @@ use Rattle.ron_spec_grammar.proofs.Values.Grammar.{any_within}
 use Rattle.ron_spec_words.proofs.Classes.{Solid}
 use Rattle.ron_spec_words.specs.Stretch.{stretch}
 use Rattle.ron_spec_words.proofs.Stretches.{part_stretch}
-use Rattle.ron_spec_grammar.specs.Raw.{trim_front, kept, is_name_alone, raw_text, raw_limit, RawBody, closed, raw_value, raw_valid, in_parts, without_gaps, trimmed}
+use Rattle.ron_spec_grammar.specs.Raw.{trim_front, kept, is_name_alone, raw_text, raw_limit, RawBody, closed, raw_value, raw_valid, in_parts, without_gaps}
+use Rattle.ron_spec_grammar.specs.Raw.{trimmed}
 use Rattle.ron_spec_grammar.specs.RawStatement.{IsBareOf}
 use Rattle.ron_spec_grammar.proofs.Raw.Moves.{gap_any, solid_some, value_moves}
 use Rattle.ron_spec_grammar.proofs.Raw.Gaps.{front_gap, kept_gap}
@@ -31,14 +32,16 @@ closed_some : (o : Got Tree) (v : Tree) → closed o ≡ Some v → (rest : Text
 closed_some (failed f) v e = absurd (cc)
 closed_some (got t rest) v e = go (same_text (skip (rest ++ 44 ∷ [])) (44 ∷ [])) refl e
   where
-    go : (b : Bool) → same_text (skip (rest ++ 44 ∷ [])) (44 ∷ []) ≡ b → cond b (Some t) None ≡ Some v → (r : Text) × (got t rest ≡ got v r) × (skip (r ++ 44 ∷ []) ≡ 44 ∷ [])
+    go : (b : Bool) → same_text (skip (rest ++ 44 ∷ [])) (44 ∷ []) ≡ b → cond b (Some t) None ≡ Some v
+        → (r : Text) × (got t rest ≡ got v r) × (skip (r ++ 44 ∷ []) ≡ 44 ∷ [])
     go true h k = let same : t ≡ v = cc in (rest, ap (λ z. got z rest) same, (bytes_eq-Decides (skip (rest ++ 44 ∷ [])) (44 ∷ [])).0 h)
     go false h k = absurd (cc)
 
 closes_comma : (rest : Text) → skip (rest ++ 44 ∷ []) ≡ 44 ∷ [] → Gap rest (44 ∷ [])
 closes_comma rest e =
     let k = cut (rest ++ 44 ∷ []) in
-    let same : rest ≡ gap_of (rest ++ 44 ∷ []) = append_cancel_right rest (gap_of (rest ++ 44 ∷ [])) (44 ∷ []) (k.split ∙ ap (λ u. gap_of (rest ++ 44 ∷ []) ++ u) e) in
+    let same : rest ≡ gap_of (rest ++ 44 ∷ []) =
+    append_cancel_right rest (gap_of (rest ++ 44 ∷ [])) (44 ∷ []) (k.split ∙ ap (λ u. gap_of (rest ++ 44 ∷ []) ++ u) e) in
     subst (λ g. Gap g (44 ∷ [])) (sym same) (subst (λ u. Gap (gap_of (rest ++ 44 ∷ [])) u) e k.is_gap.is_gap)
 
 -- what has a value is a body of it
@@ -66,7 +69,8 @@ pub raw_complete : (text : Text) (v : Tree) → RawBody text v → raw_value tex
 unfolding raw_value
 raw_complete text v z =
     let q = read_any false raw_limit false in
-    let at : after_gap q (z.before ++ (z.core ++ z.after)) ≡ q z.before (z.core ++ z.after) = after_gap_at q z.before (z.core ++ z.after) z.is_before (place.no_slash false raw_limit z.before z.core z.after v z.spelled) in
+    let at : after_gap q (z.before ++ (z.core ++ z.after)) ≡ q z.before (z.core ++ z.after) =
+    after_gap_at q z.before (z.core ++ z.after) z.is_before (place.no_slash false raw_limit z.before z.core z.after v z.spelled) in
     let is : q z.before (z.core ++ z.after) ≡ got v z.after = place.complete false raw_limit z.before z.core z.after v z.spelled (stops z.after z.is_after) in
     ap (λ u. closed (after_gap q u)) z.split ∙ ap closed (at ∙ is) ∙ ap (λ u. cond (same_text u (44 ∷ [])) (Some v) None) (skip-gap z.is_after ∙ comma_alone)
 
@@ -85,7 +89,8 @@ value_valid text v e = ap is_some e
 -- ---- what is taken is a body of the same value
 
 -- the value of a body stands within any other gaps
-pub within_gaps : (before core after : Text) (v : Tree) (g h next : Text) → AnySpells false raw_limit false before core next v → FollowsValue next → Gap g (44 ∷ []) → Gap h (44 ∷ []) → RawBody (g ++ (core ++ h)) v
+pub within_gaps : (before core after : Text) (v : Tree) (g h next : Text) → AnySpells false raw_limit false before core next v → FollowsValue next
+    → Gap g (44 ∷ []) → Gap h (44 ∷ []) → RawBody (g ++ (core ++ h)) v
 within_gaps before core after v g h next z f gg gh =
     let moved = value_moves false raw_limit before g core next h v z f (stops h gh) in
     record {
@@ -98,7 +103,8 @@ within_gaps before core after v g h next z f gg gh =
       is_after = gh;
     }
 
-pub taken_body : (before core after : Text) (v : Tree) (at_start : Bool) (next place_before : Text) → AnySpells false raw_limit false place_before core next v → FollowsValue next → Gap before (44 ∷ []) → Gap after (44 ∷ []) → RawBody (raw_text before core after at_start) v
+pub taken_body : (before core after : Text) (v : Tree) (at_start : Bool) (next place_before : Text) → AnySpells false raw_limit false place_before core next v
+    → FollowsValue next → Gap before (44 ∷ []) → Gap after (44 ∷ []) → RawBody (raw_text before core after at_start) v
 unfolding raw_text
 taken_body before core after v true next p z f g h = within_gaps p core after v before after next z f g h
 taken_body before core after v false next p z f g h = go (is_name_alone core)
@@ -120,7 +126,8 @@ parts_are : (text : Text) (v : Tree) (b : RawBody text v) → (gap_of text ≡ b
 parts_are text v b =
     let p = (any_within {step = 6} (omega arith) false raw_limit raw_limit (omega arith)).part false b.before in
     let solid = value_solid false raw_limit b.before b.core b.after v b.spelled in
-    let answer : stretch (read_any false raw_limit false b.before) (b.core ++ b.after) ≡ got b.core b.after = ((part_stretch p).exact.complete b.core b.after b.core (record { value = v; spelled = b.spelled; same = refl }) (stops b.after b.is_after) solid.1).answer in
+    let answer : stretch (read_any false raw_limit false b.before) (b.core ++ b.after) ≡ got b.core b.after = ((part_stretch p).exact.complete b.core b.after
+    b.core (record { value = v; spelled = b.spelled; same = refl }) (stops b.after b.is_after) solid.1).answer in
     let gap : gap_of text ≡ b.before = ap gap_of b.split ∙ gap_of-append b.before (b.core ++ b.after) b.is_before in
     let rest : skip text ≡ b.core ++ b.after = ap skip b.split ∙ skip-append b.before (b.core ++ b.after) b.is_before in
     (gap, rw (gap, rest) answer)
@@ -133,10 +140,12 @@ trimmed_is text v b = let p = parts_are text v b in rw (p.1, p.0) refl
 pub trimmed_value : (text : Text) (v : Tree) → raw_value text ≡ Some v → raw_value (trimmed text) ≡ Some v
 trimmed_value text v e =
     let b = raw_sound text v e in
-    ap raw_value (trimmed_is text v b) ∙ raw_complete _ v (taken_body b.before b.core b.after v false b.after b.before b.spelled (stops b.after b.is_after) (before_comma b) b.is_after)
+    ap raw_value (trimmed_is text v b)
+    ∙ raw_complete _ v (taken_body b.before b.core b.after v false b.after b.before b.spelled (stops b.after b.is_after) (before_comma b) b.is_after)
 
 pub core_value : (text : Text) (v : Tree) (b : RawBody text v) → raw_value b.core ≡ Some v
-core_value text v b = subst (λ t. raw_value t ≡ Some v) (append-nil b.core) (raw_complete (b.core ++ []) v (within_gaps b.before b.core b.after v [] [] b.after b.spelled (stops b.after b.is_after) none none))
+core_value text v b = subst (λ t. raw_value t ≡ Some v) (append-nil b.core)
+    (raw_complete (b.core ++ []) v (within_gaps b.before b.core b.after v [] [] b.after b.spelled (stops b.after b.is_after) none none))
 
 without_is : (text : Text) (v : Tree) (b : RawBody text v) → without_gaps text ≡ b.core
 unfolding without_gaps
@@ -145,5 +154,10 @@ without_is text v b = let p = parts_are text v b in rw (p.1) refl
 pub without_value : (text : Text) (v : Tree) → raw_value text ≡ Some v → IsBareOf v (without_gaps text)
 without_value text v e =
     let b = raw_sound text v e in
-    let alone : AnySpells false raw_limit false [] b.core [] v = value_moves false raw_limit b.before [] b.core b.after [] v b.spelled (stops b.after b.is_after) (ap ends_value skip-end) in
-    subst (IsBareOf v) (sym (without_is text v b)) (record { value = core_value text v b; alone = alone; no_gap = subst (λ t. skip t ≡ t) (append-nil b.core) (value_solid false raw_limit [] b.core [] v alone).1 })
+    let alone : AnySpells false raw_limit false [] b.core [] v =
+    value_moves false raw_limit b.before [] b.core b.after [] v b.spelled (stops b.after b.is_after) (ap ends_value skip-end) in
+    subst (IsBareOf v) (sym (without_is text v b)) (record {
+      value = core_value text v b;
+      alone = alone;
+      no_gap = subst (λ t. skip t ≡ t) (append-nil b.core) (value_solid false raw_limit [] b.core [] v alone).1;
+    })

@@ -1,5 +1,6 @@
 -- What is kept of a gap is a gap, and leaves no line comment open.
-use Rattle.std.proofs.Common.{◌≡◌, ℕ, ◌==◌, Bool, true, false, not, cond, [], ◌∷◌, ◌++◌, ◌⊎◌, inl, inr, refl, sym, ap, ◌∙◌, length, drop, append_assoc, append-nil, subst}
+use Rattle.std.proofs.Common.{◌≡◌, ℕ, ◌==◌, Bool, true, false, not, cond, [], ◌∷◌, ◌++◌, ◌⊎◌, inl, inr, refl, sym, ap, ◌∙◌, length, drop, append_assoc}
+use Rattle.std.proofs.Common.{append-nil, subst}
 use Rattle.std.proofs.Math.Seq.{drop-append_seam}
 use Rattle.std.specs.Char.{is_whitespace}
 use Rattle.ron_spec_words.specs.Characters.{Text}
@@ -41,7 +42,8 @@ trims : (t : Text) → Trims t
 trims [] = record { white = []; split = refl; every = tt }
 trims (c ∷ t) = go (trims t)
   where
-    one : (b : Bool) → is_whitespace c ≡ b → (w : Text) → t ≡ w → Every is_whitespace w → (white : Text) × (c ∷ t ≡ cond b [] (c ∷ []) ++ white) × Every is_whitespace white
+    one : (b : Bool) → is_whitespace c ≡ b → (w : Text) → t ≡ w → Every is_whitespace w
+        → (white : Text) × (c ∷ t ≡ cond b [] (c ∷ []) ++ white) × Every is_whitespace white
     one true e w k h = (c ∷ w, ap (λ u. c ∷ u) k, (e, h))
     one false e w k h = (w, ap (λ u. c ∷ u) k, h)
 
@@ -90,7 +92,8 @@ slash_last : (x t : Text) (c : ℕ) (w : Text) → x ++ 47 ∷ [] ≡ t ++ c ∷
 slash_last x t c w e h = go (cut_cut x (47 ∷ []) t (c ∷ w) e)
   where
     go : Within x (47 ∷ []) t (c ∷ w) ⊎ Past x (47 ∷ []) t (c ∷ w) → ⊥
-    go (inl k) = let all : Every is_whitespace ((k.mark ∷ k.more) ++ 47 ∷ []) = subst (Every is_whitespace) k.second h in slash_white (every_first is_whitespace (k.mark ∷ k.more) (47 ∷ []) all).1.0
+    go (inl k) = let all : Every is_whitespace ((k.mark ∷ k.more) ++ 47 ∷ []) = subst (Every is_whitespace) k.second h in
+        slash_white (every_first is_whitespace (k.mark ∷ k.more) (47 ∷ []) all).1.0
     go (inr k) = let o = one_is 47 c k.more w k.second in slash_white (ap is_whitespace o.1 ∙ h.0)
 
 -- What is left of a gap without the white space at its end is a gap, or it ends in a line comment, whose LF was white space.
@@ -152,7 +155,8 @@ line_cut u (a ∷ b ∷ t) g c w h e k = let p : a ≡ 47 = cc in let q : b ≡ 
 piece_cut : (p t g : Text) (c : ℕ) (w : Text) → Piece p → p ≡ t ++ c ∷ w → Every is_whitespace (c ∷ w) → Gap t (44 ∷ []) ⊎ OpenLine t (c ∷ (w ++ g))
 piece_cut p t g c w (blank d e) k h = inl (let o = one_is d c t w k in rw o.0 none)
 piece_cut p t g c w (line u e) k h = inr (line_cut u t g c w e k h)
-piece_cut p t g c w (block inner e) k h = absurd (slash_last (47 ∷ 42 ∷ (inner ++ 42 ∷ [])) t c w (ap (λ v. 47 ∷ 42 ∷ v) (append_assoc inner (42 ∷ []) (47 ∷ [])) ∙ k) h)
+piece_cut p t g c w (block inner e) k h =
+    absurd (slash_last (47 ∷ 42 ∷ (inner ++ 42 ∷ [])) t c w (ap (λ v. 47 ∷ 42 ∷ v) (append_assoc inner (42 ∷ []) (47 ∷ [])) ∙ k) h)
 
 gap_cut : {g next : Text} → Gap g next → next ≡ 44 ∷ [] → (t w : Text) → g ≡ t ++ w → Every is_whitespace w → Gap t (44 ∷ []) ⊎ OpenLine t w
 gap_cut none n [] w e h = inl none
@@ -161,14 +165,16 @@ gap_cut (last_line u k) n t w e h = absurd (cc)
 gap_cut (piece p g next k r) n t w e h = go (cut_cut p g t w e) (λ u f. gap_cut r n u w f h)
   where
     go : Within p g t w ⊎ Past p g t w → ((u : Text) → g ≡ u ++ w → Gap u (44 ∷ []) ⊎ OpenLine u w) → Gap t (44 ∷ []) ⊎ OpenLine t w
-    go (inl z) more = subst (λ v. Gap t (44 ∷ []) ⊎ OpenLine t v) (sym z.second) (piece_cut p t g z.mark z.more k z.first (every_first is_whitespace (z.mark ∷ z.more) g (subst (Every is_whitespace) z.second h)).0)
+    go (inl z) more = subst (λ v. Gap t (44 ∷ []) ⊎ OpenLine t v) (sym z.second)
+        (piece_cut p t g z.mark z.more k z.first (every_first is_whitespace (z.mark ∷ z.more) g (subst (Every is_whitespace) z.second h)).0)
     go (inr z) more = behind_gap p t z.more w k z.first (more z.more z.second)
 
 through : (t more : Text) → Every in_line t → through_line (t ++ 10 ∷ more) ≡ t ++ 10 ∷ []
 through [] more h = refl
 through (c ∷ t) more h = go (c == 10) h.0 (through t more h.1)
   where
-    go : (b : Bool) → not b ≡ true → through_line (t ++ 10 ∷ more) ≡ t ++ 10 ∷ [] → ◌≡◌ {A = Text} (cond b (c ∷ []) (c ∷ through_line (t ++ 10 ∷ more))) (c ∷ (t ++ 10 ∷ []))
+    go : (b : Bool) → not b ≡ true → through_line (t ++ 10 ∷ more) ≡ t ++ 10 ∷ []
+        → ◌≡◌ {A = Text} (cond b (c ∷ []) (c ∷ through_line (t ++ 10 ∷ more))) (c ∷ (t ++ 10 ∷ []))
     go true k e = absurd (cc)
     go false k e = ap (λ u. c ∷ u) e
 
@@ -180,14 +186,20 @@ kept_gap g h = let z = trims g in go z (gap_cut h refl (trim_back g) z.white z.s
     T : Text
     T = trim_back g
 
-    go : (z : Trims g) → Gap (trim_back g) (44 ∷ []) ⊎ OpenLine (trim_back g) z.white → Gap (cond (not (is_at 44 (skip (trim_back g ++ 44 ∷ [])))) (trim_back g ++ through_line (drop (length (trim_back g)) g)) (trim_back g)) (44 ∷ [])
+    go : (z : Trims g) → Gap (trim_back g) (44 ∷ []) ⊎ OpenLine (trim_back g) z.white
+        → Gap (cond (not (is_at 44 (skip (trim_back g ++ 44 ∷ [])))) (trim_back g ++ through_line (drop (length (trim_back g)) g)) (trim_back g)) (44 ∷ [])
     go z (inl k) = rw (skip-gap k, skip-other 44 [] refl refl) k
     go z (inr k) =
         let all : Every in_line (k.words ++ 44 ∷ []) = every_append in_line k.words (44 ∷ []) k.every (refl, tt) in
-        let ends : trim_back g ++ 44 ∷ [] ≡ k.gap ++ 47 ∷ 47 ∷ (k.words ++ 44 ∷ []) = ap (λ u. u ++ 44 ∷ []) k.first ∙ append_assoc k.gap (47 ∷ 47 ∷ k.words) (44 ∷ []) in
-        let swallows : skip (trim_back g ++ 44 ∷ []) ≡ [] = ap skip ends ∙ skip-gap (gap_any k.is_gap (λ e. cc) (47 ∷ 47 ∷ (k.words ++ 44 ∷ []))) ∙ skip_to_end (47 ∷ 47 ∷ (k.words ++ 44 ∷ [])) (last_line (k.words ++ 44 ∷ []) all) in
-        let behind : drop (length (trim_back g)) g ≡ k.rest ++ 10 ∷ k.more = ap (drop (length (trim_back g))) z.split ∙ drop-append_seam (trim_back g) z.white ∙ k.second in
+        let ends : trim_back g ++ 44 ∷ [] ≡ k.gap ++ 47 ∷ 47 ∷ (k.words ++ 44 ∷ []) =
+        ap (λ u. u ++ 44 ∷ []) k.first ∙ append_assoc k.gap (47 ∷ 47 ∷ k.words) (44 ∷ []) in
+        let swallows : skip (trim_back g ++ 44 ∷ []) ≡ [] = ap skip ends ∙ skip-gap (gap_any k.is_gap (λ e. cc) (47 ∷ 47 ∷ (k.words ++ 44 ∷ [])))
+        ∙ skip_to_end (47 ∷ 47 ∷ (k.words ++ 44 ∷ [])) (last_line (k.words ++ 44 ∷ []) all) in
+        let behind : drop (length (trim_back g)) g ≡ k.rest ++ 10 ∷ k.more =
+        ap (drop (length (trim_back g))) z.split ∙ drop-append_seam (trim_back g) z.white ∙ k.second in
         let lines : trim_back g ++ (k.rest ++ 10 ∷ []) ≡ k.gap ++ 47 ∷ 47 ∷ ((k.words ++ k.rest) ++ 10 ∷ []) =
-        ap (λ u. u ++ (k.rest ++ 10 ∷ [])) k.first ∙ append_assoc k.gap (47 ∷ 47 ∷ k.words) (k.rest ++ 10 ∷ []) ∙ ap (λ u. k.gap ++ 47 ∷ 47 ∷ u) (sym (append_assoc k.words k.rest (10 ∷ []))) in
-        let last : Gap (47 ∷ 47 ∷ ((k.words ++ k.rest) ++ 10 ∷ [])) (44 ∷ []) = subst (λ u. Gap u (44 ∷ [])) (append-nil _) (piece (47 ∷ 47 ∷ ((k.words ++ k.rest) ++ 10 ∷ [])) [] (44 ∷ []) (line (k.words ++ k.rest) (every_append in_line k.words k.rest k.every k.within)) none) in
+        ap (λ u. u ++ (k.rest ++ 10 ∷ [])) k.first ∙ append_assoc k.gap (47 ∷ 47 ∷ k.words) (k.rest ++ 10 ∷ [])
+        ∙ ap (λ u. k.gap ++ 47 ∷ 47 ∷ u) (sym (append_assoc k.words k.rest (10 ∷ []))) in
+        let last : Gap (47 ∷ 47 ∷ ((k.words ++ k.rest) ++ 10 ∷ [])) (44 ∷ []) = subst (λ u. Gap u (44 ∷ [])) (append-nil _) (piece
+        (47 ∷ 47 ∷ ((k.words ++ k.rest) ++ 10 ∷ [])) [] (44 ∷ []) (line (k.words ++ k.rest) (every_append in_line k.words k.rest k.every k.within)) none) in
         rw (swallows, behind, through k.rest k.more k.within, lines) (gap_append k.is_gap (λ e. cc) last)

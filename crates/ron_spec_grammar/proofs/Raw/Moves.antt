@@ -16,7 +16,9 @@ use Rattle.ron_value.specs.Tree.{Tree}
 use Rattle.ron_value.specs.Tree as tree
 use Rattle.ron_spec_grammar.specs.Rule.{below}
 use Rattle.ron_spec_grammar.specs.Values.Trees.{Entry}
-use Rattle.ron_spec_grammar.specs.Values.Grammar.{character_value, text_value, bytes_value, some_value, unit_value, list_value, map_value, fields_value, entry_with, Values, FieldEntry, PairEntry, FieldsInside, ItemsInside, RoundGroup, SomeContent, WordValue, OneValue, ValueRule, no_value, AnySpells}
+use Rattle.ron_spec_grammar.specs.Values.Grammar.{character_value, text_value, bytes_value, some_value, unit_value, list_value, map_value, fields_value}
+use Rattle.ron_spec_grammar.specs.Values.Grammar.{entry_with, Values, FieldEntry, PairEntry, FieldsInside, ItemsInside, RoundGroup, SomeContent, WordValue}
+use Rattle.ron_spec_grammar.specs.Values.Grammar.{OneValue, ValueRule, no_value, AnySpells}
 use Rattle.ron_spec_grammar.proofs.Shapes.Option.{some_solid}
 use Rattle.ron_spec_grammar.proofs.Shapes.Units.{empty_solid}
 use Rattle.ron_spec_grammar.proofs.Shapes.Texts.{char_solid, string_solid}
@@ -111,7 +113,9 @@ module _ {A : Type 0} (o c : ℕ) (not_blank : is_blank c ≡ false) (no_slash :
 
 module _ {A : Type 0} (L M : List A → Text → Lang A) (close : ℕ) (is_close : is_delimiter close ≡ true) (o : (seen : List A) (before : Text) → Opens (L seen before)) (p : (seen : List A) (before : Text) → Opens (M seen before))
     (h : (seen : List A) (before t next other : Text) (a : A) → L seen before t next a → FollowsValue next → FollowsValue other → M seen before t other a) where
-  item_over : (seen : List A) (before : Text) (a : A) (xs : List A) → Content {A = Done} close (λ t next u. Tail L (a ∷ seen) t next xs) (λ t next u. Tail M (a ∷ seen) t next xs) → Content {A = Done} close (Then (At (L seen before) a) (λ _ _ u n _. Tail L (a ∷ seen) u n xs)) (Then (At (M seen before) a) (λ _ _ u n _. Tail M (a ∷ seen) u n xs))
+  item_over : (seen : List A) (before : Text) (a : A) (xs : List A)
+      → Content {A = Done} close (λ t next u. Tail L (a ∷ seen) t next xs) (λ t next u. Tail M (a ∷ seen) t next xs) → Content {A = Done} close
+      (Then (At (L seen before) a) (λ _ _ u n _. Tail L (a ∷ seen) u n xs)) (Then (At (M seen before) a) (λ _ _ u n _. Tail M (a ∷ seen) u n xs))
   item_over seen before a xs more = record {
     over = λ t next other x y s n.
         let ys = more.over y.right next other x y.second s y.is_gap.longest in
@@ -130,7 +134,16 @@ module _ {A : Type 0} (L M : List A → Text → Lang A) (close : ℕ) (is_close
       go : (t next other : Text) (x : Done) → Tail L seen t next [] → Same close next other → skip (t ++ next) ≡ t ++ next → Tail M seen t other [] × (skip (t ++ other) ≡ t ++ other)
       go t next other x (inl z) s n = (inl z, rw z.0 (s.solid (rw z.0 at n)))
       go t next other x (inr z) s n = (
-        inr (record { value = z.value; left = z.left; gap = z.gap; right = z.right; split = z.split; first = z.first; is_gap = carry z.is_gap (before_some close z.right next s.first) (z.right ++ other) (rw z.second.0 (s.solid (rw z.second.0 at z.is_gap.longest))); second = z.second }),
+        inr (record {
+          value = z.value;
+          left = z.left;
+          gap = z.gap;
+          right = z.right;
+          split = z.split;
+          first = z.first;
+          is_gap = carry z.is_gap (before_some close z.right next s.first) (z.right ++ other) (rw z.second.0 (s.solid (rw z.second.0 at z.is_gap.longest)));
+          second = z.second;
+        }),
         rw (z.split, z.first.0) (skip-other 44 ((z.gap ++ z.right) ++ other) refl refl),
       )
   tail_over seen (a ∷ xs) = record {
@@ -163,7 +176,9 @@ at_quiet : (c : ℕ) (s : Text) → continues_word c ≡ false → is_at c s ≡
 at_quiet c [] b e = refl
 at_quiet c (d ∷ s) b e = ap continues_word (eqb-true d c e) ∙ b
 
-module _ (c : ℕ) (b : is_blank c ≡ false) (n : (c == 47) ≡ false) (w : continues_word c ≡ false) {A B : Type 0} {L : Lang A} (l : Settled L) {M N : A → Text → Lang B} (o : (a : A) (gap : Text) → First (λ s. is_at c s ≡ true) (M a gap)) (p : (a : A) (gap : Text) → First (λ s. is_at c s ≡ true) (N a gap)) where
+module _ (c : ℕ) (b : is_blank c ≡ false) (n : (c == 47) ≡ false) (w : continues_word c ≡ false) {A B : Type 0} {L : Lang A} (l : Settled L)
+    {M N : A → Text → Lang B} (o : (a : A) (gap : Text) → First (λ s. is_at c s ≡ true) (M a gap))
+    (p : (a : A) (gap : Text) → First (λ s. is_at c s ≡ true) (N a gap)) where
   word_over : (t next other : Text) (x : B) → ((a : A) (gap u : Text) → M a gap u next x → N a gap u other x) → Then L M t next x → Then L N t other x
   word_over t next other x h z =
       let second = h z.value z.gap z.right z.second in
@@ -202,7 +217,8 @@ comma_over {A} {L} {M} o h = record { over = go }
     go : (t next other : Text) (a : A) → WithComma L t next a → Same 41 next other → skip (t ++ next) ≡ t ++ next → Moved (WithComma M) t other a
     go t next other a z s n =
         let gap : LongGap z.gap (z.right ++ other) = carry z.is_gap (before_some 41 z.right next s.first) (z.right ++ other) (right_solid z.value z.right next other a z.second s z.is_gap.longest) in
-        let first = h z.left (z.gap ++ (z.right ++ next)) (z.gap ++ (z.right ++ other)) z.value z.first (comma_follows z.value z.gap z.right next a z.is_gap z.second s.first) (comma_follows z.value z.gap z.right other a gap z.second s.second) in (
+        let first = h z.left (z.gap ++ (z.right ++ next)) (z.gap ++ (z.right ++ other)) z.value z.first
+        (comma_follows z.value z.gap z.right next a z.is_gap z.second s.first) (comma_follows z.value z.gap z.right other a gap z.second s.second) in (
           record { value = z.value; left = z.left; gap = z.gap; right = z.right; split = z.split; first = first; is_gap = gap; second = z.second },
           rw (z.split, three z.left z.gap z.right other) (o.holds z.left (z.gap ++ (z.right ++ other)) z.value first).1,
         )
@@ -223,7 +239,8 @@ bracket_first = first_then (first_mark _ 40 done (λ s. refl))
 
 module _ {V W : Values} (h : Turned V W) where
   -- `:` and a value
-  colon_over : {A : Type 0} (f : Tree → Option A) (t next other : Text) (x : A) → FollowsValue next → FollowsValue other → Then (Mark 58 done) (λ _ gap. Means (V false gap) f) t next x → Then (Mark 58 done) (λ _ gap. Means (W false gap) f) t other x
+  colon_over : {A : Type 0} (f : Tree → Option A) (t next other : Text) (x : A) → FollowsValue next → FollowsValue other
+      → Then (Mark 58 done) (λ _ gap. Means (V false gap) f) t next x → Then (Mark 58 done) (λ _ gap. Means (W false gap) f) t other x
   colon_over f t next other x fn fo z =
       let v = z.second in
       let moved = h.over z.gap z.right next other v.value v.spelled fn fo in
@@ -239,7 +256,9 @@ module _ {V W : Values} (h : Turned V W) where
       }
 
   field_over : (t next other : Text) (x : Entry) → FieldEntry V t next x → FollowsValue next → FollowsValue other → FieldEntry W t other x
-  field_over t next other x z fn fo = word_over 58 refl refl colon_word settled_name {M = λ n _. Then (Mark 58 done) (λ _ gap. Means (V false gap) (entry_with (tree.text (encode_utf8_all n))))} {N = λ n _. Then (Mark 58 done) (λ _ gap. Means (W false gap) (entry_with (tree.text (encode_utf8_all n))))}
+  field_over t next other x z fn fo = word_over 58 refl refl colon_word settled_name
+      {M = λ n _. Then (Mark 58 done) (λ _ gap. Means (V false gap) (entry_with (tree.text (encode_utf8_all n))))}
+      {N = λ n _. Then (Mark 58 done) (λ _ gap. Means (W false gap) (entry_with (tree.text (encode_utf8_all n))))}
       (λ _ _. colon_first) (λ _ _. colon_first) t next other x (λ n gap u y. colon_over (entry_with (tree.text (encode_utf8_all n))) u next other x fn fo y) z
 
   pair_over : (before t next other : Text) (x : Entry) → PairEntry V before t next x → FollowsValue next → FollowsValue other → PairEntry W before t other x
@@ -254,7 +273,8 @@ module _ {V W : Values} (h : Turned V W) where
         gap = z.gap;
         right = z.right;
         split = z.split;
-        first = h.over before z.left (z.gap ++ (z.right ++ next)) (z.gap ++ (z.right ++ other)) z.value z.first (stops_gap z.gap (z.right ++ next) z.is_gap (stop (z.right ++ next) at)) (stops_gap z.gap (z.right ++ other) gap (stop (z.right ++ other) at'));
+        first = h.over before z.left (z.gap ++ (z.right ++ next)) (z.gap ++ (z.right ++ other)) z.value z.first
+            (stops_gap z.gap (z.right ++ next) z.is_gap (stop (z.right ++ next) at)) (stops_gap z.gap (z.right ++ other) gap (stop (z.right ++ other) at'));
         is_gap = gap;
         second = second;
       }

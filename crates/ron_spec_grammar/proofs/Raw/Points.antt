@@ -1,5 +1,7 @@
--- A number or a range is spelled before any text that may follow a value, if it is before one: what stands behind a number is quiet, or points, and points cut what a float may be.
-use Rattle.std.proofs.Common.{◌≡◌, ℕ, ◌==◌, Bool, true, false, not, ◌||◌, ◌&&◌, cond, [], ◌∷◌, ◌++◌, inl, inr, Option, Some, None, refl, sym, ap, ap₂, ◌∙◌, append_assoc, append-nil, length, nat_lt}
+-- A number or a range is spelled before any text that may follow a value, if it is before one: what stands behind a number is quiet, or points, and points cut
+-- what a float may be.
+use Rattle.std.proofs.Common.{◌≡◌, ℕ, ◌==◌, Bool, true, false, not, ◌||◌, ◌&&◌, cond, [], ◌∷◌, ◌++◌, inl, inr, Option, Some, None, refl, sym, ap, ap₂, ◌∙◌}
+use Rattle.std.proofs.Common.{append_assoc, append-nil, length, nat_lt}
 use Rattle.std.proofs.lemmas.Bool.{or_parts}
 use Rattle.ron_spec_words.proofs.Classes.{Clear, solid_class}
 use Rattle.unicode_ident.proofs.Computing.{unicode_ident}
@@ -22,14 +24,16 @@ module _ (u v : Text) where
   -- the two runs begin alike
   dot_alike : (p : ℕ → Bool) → p 46 ≡ true → (s : Text) → begins_with (46 ∷ []) (run_of p (s ++ dotted u)) ≡ begins_with (46 ∷ []) (run_of p (s ++ dotted v))
   dot_alike p e [] = rw e refl
-  dot_alike p e (d ∷ s) = elim (p d) as (λ b. begins_with (46 ∷ []) (cond b (d ∷ run_of p (s ++ dotted u)) []) ≡ begins_with (46 ∷ []) (cond b (d ∷ run_of p (s ++ dotted v)) [])) [ true ↦ refl | false ↦ refl ]
+  dot_alike p e (d ∷ s) = elim (p d) as (λ b. begins_with (46 ∷ []) (cond b (d ∷ run_of p (s ++ dotted u)) [])
+      ≡ begins_with (46 ∷ []) (cond b (d ∷ run_of p (s ++ dotted v)) [])) [ true ↦ refl | false ↦ refl ]
 
   -- a run, cut at its first points, knows nothing of what stands behind them
   cut_alike : (p : ℕ → Bool) → p 46 ≡ true → (s : Text) → before_dots (run_of p (s ++ dotted u)) ≡ before_dots (run_of p (s ++ dotted v))
   cut_alike p e [] = rw e refl
   cut_alike p e (c ∷ s) = go (p c) (dot_alike p e s) (cut_alike p e s)
     where
-      go : (b : Bool) → begins_with (46 ∷ []) (run_of p (s ++ dotted u)) ≡ begins_with (46 ∷ []) (run_of p (s ++ dotted v)) → before_dots (run_of p (s ++ dotted u)) ≡ before_dots (run_of p (s ++ dotted v))
+      go : (b : Bool) → begins_with (46 ∷ []) (run_of p (s ++ dotted u)) ≡ begins_with (46 ∷ []) (run_of p (s ++ dotted v))
+          → before_dots (run_of p (s ++ dotted u)) ≡ before_dots (run_of p (s ++ dotted v))
           → before_dots (cond b (c ∷ run_of p (s ++ dotted u)) []) ≡ before_dots (cond b (c ∷ run_of p (s ++ dotted v)) [])
       go false k ih = refl
       go true k ih = ap₂ (λ b (t : Text). cond ((c == 46) && b) [] (c ∷ t)) k ih
@@ -38,7 +42,8 @@ module _ (u v : Text) where
   run_alike p e [] = rw e refl
   run_alike p e (c ∷ s) = ap (λ t. cond (p c) (c ∷ t) []) (run_alike p e s)
 
-  float_of : (s : Text) → nat_lt (length (run_of in_number (s ++ dotted u))) (length (before_dots (run_of in_float (s ++ dotted u)))) ≡ nat_lt (length (run_of in_number (s ++ dotted v))) (length (before_dots (run_of in_float (s ++ dotted v))))
+  float_of : (s : Text) → nat_lt (length (run_of in_number (s ++ dotted u))) (length (before_dots (run_of in_float (s ++ dotted u))))
+      ≡ nat_lt (length (run_of in_number (s ++ dotted v))) (length (before_dots (run_of in_float (s ++ dotted v))))
   float_of s = rw (run_alike in_number refl s, cut_alike in_float refl s) refl
 
   float_alike : (s : Text) → is_float (s ++ dotted u) ≡ is_float (s ++ dotted v)
@@ -107,7 +112,13 @@ abbrev goes_on : ℕ → Bool
 goes_on c = starts_integer c || ((c == 46) || ((c == 61) || (c == 98)))
 
 on_clear : Clear goes_on
-on_clear = record { stop = (refl, refl, refl, refl, refl); range = (refl, (refl, (refl, (refl, (refl, tt))))); blank = (refl, refl, refl, refl, refl, refl); slash = refl; hash = refl }
+on_clear = record {
+  stop = (refl, refl, refl, refl, refl);
+  range = (refl, (refl, (refl, (refl, (refl, tt)))));
+  blank = (refl, refl, refl, refl, refl, refl);
+  slash = refl;
+  hash = refl;
+}
 
 pub on_ends : (next : Text) → FollowsValue next → begins goes_on next ≡ false
 on_ends [] f = refl
@@ -137,11 +148,21 @@ module _ (next other : Text) (fn : FollowsValue next) (fo : FollowsValue other) 
   number_moves t n z = settled_integer.over t next other n (quiet_value next fn) (quiet_value other fo) z
 
   dots_move : (a : Option Numeral) (t : Text) (b : Interval) → Points a t next b → Points a t other b
-  dots_move a t b z = record { rest = z.rest; split = z.split; spelled = record { rest = z.spelled.rest; split = z.spelled.split; spelled = go z.spelled.rest z.spelled.spelled } }
+  dots_move a t b z = record {
+    rest = z.rest;
+    split = z.split;
+    spelled = record { rest = z.spelled.rest; split = z.spelled.split; spelled = go z.spelled.rest z.spelled.spelled };
+  }
     where
-      go : (t : Text) → Or (Behind 61 (Means UntypedInteger (up_to a true))) (Or (Means UntypedInteger (up_to a false)) (When is_open (Empty (range a false None)))) t next b
-          → Or (Behind 61 (Means UntypedInteger (up_to a true))) (Or (Means UntypedInteger (up_to a false)) (When is_open (Empty (range a false None)))) t other b
-      go t (inl y) = inl (record { rest = y.rest; split = y.split; spelled = record { value = y.spelled.value; spelled = number_moves y.rest y.spelled.value y.spelled.spelled; meant = y.spelled.meant } })
+      go : (t : Text) → Or (Behind 61 (Means UntypedInteger (up_to a true)))
+          (Or (Means UntypedInteger (up_to a false)) (When is_open (Empty (range a false None)))) t next b
+          → Or (Behind 61 (Means UntypedInteger (up_to a true))) (Or (Means UntypedInteger (up_to a false)) (When is_open (Empty (range a false None)))) t other
+          b
+      go t (inl y) = inl (record {
+        rest = y.rest;
+        split = y.split;
+        spelled = record { value = y.spelled.value; spelled = number_moves y.rest y.spelled.value y.spelled.spelled; meant = y.spelled.meant };
+      })
       go t (inr (inl y)) = inr (inl (record { value = y.value; spelled = number_moves t y.value y.spelled; meant = y.meant }))
       go t (inr (inr y)) = inr (inr (rw y.1.0 (open_there other (on_ends other fo)), y.1))
 
@@ -149,14 +170,30 @@ module _ (next other : Text) (fn : FollowsValue next) (fo : FollowsValue other) 
   behind_moves a t b (inl z) = inl (dots_move (Some a) t b z)
   behind_moves a t b (inr z) = inr (rw z.1.0 (ap not (no_points_there other (on_ends other fo))), z.1)
 
-  first_moves : (a : Numeral) (left right : Text) (b : Interval) → BehindNumber a right next b → UntypedInteger left (right ++ next) a → UntypedInteger left (right ++ other) a
-  first_moves a left right b (inl z) h = rw (z.split, z.spelled.split) (untyped_over (z.spelled.rest ++ next) (z.spelled.rest ++ other) left a (rw (z.split, z.spelled.split) at h))
+  first_moves : (a : Numeral) (left right : Text) (b : Interval) → BehindNumber a right next b → UntypedInteger left (right ++ next) a
+      → UntypedInteger left (right ++ other) a
+  first_moves a left right b (inl z) h =
+      rw (z.split, z.spelled.split) (untyped_over (z.spelled.rest ++ next) (z.spelled.rest ++ other) left a (rw (z.split, z.spelled.split) at h))
   first_moves a left right b (inr z) h = rw z.1.0 (number_moves left a (rw z.1.0 at h))
 
   pub interval_moves : (t : Text) (b : Interval) → NumberOrRange t next b → NumberOrRange t other b
   interval_moves t b (inl z) = inl (dots_move None t b z)
-  interval_moves t b (inr z) = inr (record { value = z.value; left = z.left; right = z.right; split = z.split; first = first_moves z.value z.left z.right b z.second z.first; second = behind_moves z.value z.right b z.second })
+  interval_moves t b (inr z) = inr (record {
+    value = z.value;
+    left = z.left;
+    right = z.right;
+    split = z.split;
+    first = first_moves z.value z.left z.right b z.second z.first;
+    second = behind_moves z.value z.right b z.second;
+  })
 
 -- a number alone stands before what may follow a value
 pub one_stands : (t next : Text) (n : Numeral) → UntypedInteger t next n → FollowsValue next → NumberOrRange t next (one n)
-one_stands t next n z f = inr (record { value = n; left = t; right = []; split = sym (append-nil t); first = z; second = inr (ap not (no_points_there next (on_ends next f)), (refl, refl)) })
+one_stands t next n z f = inr (record {
+  value = n;
+  left = t;
+  right = [];
+  split = sym (append-nil t);
+  first = z;
+  second = inr (ap not (no_points_there next (on_ends next f)), (refl, refl));
+})

@@ -1,5 +1,6 @@
 -- A word is spelled before any text with which no word goes on, if it is before one.
-use Rattle.std.proofs.Common.{◌≡◌, ℕ, ◌==◌, Bool, true, false, not, ◌||◌, ◌&&◌, cond, List, [], ◌∷◌, ◌++◌, codes, inl, inr, Option, Some, None, refl, sym, ap, ◌∙◌, append_assoc, encode_utf8, eqb-true, arith}
+use Rattle.std.proofs.Common.{◌≡◌, ℕ, ◌==◌, Bool, true, false, not, ◌||◌, ◌&&◌, cond, List, [], ◌∷◌, ◌++◌, codes, inl, inr, Option, Some, None, refl, sym, ap}
+use Rattle.std.proofs.Common.{◌∙◌, append_assoc, encode_utf8, eqb-true, arith}
 use Rattle.std.proofs.lemmas.Bool.Decides.{nat_tests}
 use Rattle.std.proofs.lemmas.Bool.{and_parts}
 use Rattle.std.specs.List.{list_all}
@@ -12,8 +13,10 @@ use Rattle.ron_spec_words.specs.Lang.{Lang, done, Nothing, Mark, Run, Behind, No
 use Rattle.ron_spec_words.specs.Exact.{FollowsValue}
 use Rattle.ron_spec_words.specs.Directly.{Directly, AnyOne, FixedWord, stands}
 use Rattle.ron_spec_words.specs.Name.{opens_literal, is_name_mark, RawName, Name, if_no_value_word, UntypedName}
-use Rattle.ron_spec_words.specs.Escape.{escape_meaning, PlainEscape, hex_digit, two_digits, HexByte, if_ascii, HexBytes, HexCharacter, UnicodeEscape, Escape, in_continuation, is_line_feed, Continuation, always}
-use Rattle.ron_spec_words.specs.Quoted.{SingleQuoted, if_no_backslash, if_ascii_no_backslash, Char, Byte, Pieces, close, piece, if_plain, StringPiece, itself, gives, Raw, utf8, String, ByteString}
+use Rattle.ron_spec_words.specs.Escape.{escape_meaning, PlainEscape, hex_digit, two_digits, HexByte, if_ascii, HexBytes, HexCharacter, UnicodeEscape, Escape}
+use Rattle.ron_spec_words.specs.Escape.{in_continuation, is_line_feed, Continuation, always}
+use Rattle.ron_spec_words.specs.Quoted.{SingleQuoted, if_no_backslash, if_ascii_no_backslash, Char, Byte, Pieces, close, piece, if_plain, StringPiece, itself}
+use Rattle.ron_spec_words.specs.Quoted.{gives, Raw, utf8, String, ByteString}
 use Rattle.ron_spec_words.specs.Number.{Suffix, suffix_word, OptSuffix, in_number, InBase, opens_base, Magnitude, numeral, Unsigned, Number}
 use Rattle.ron_spec_words.specs.AnyInteger.{byte_numeral, in_float, past_sign, is_float, UntypedInteger}
 use Rattle.ron_spec_words.proofs.Gaps.{skip-other}
@@ -39,12 +42,24 @@ unfolding unicode_ident
 delimiter_ends c h = go (continues_word c) refl
   where
     go : (b : Bool) → continues_word c ≡ b → b ≡ false
-    go true k = absurd (let no : false ≡ true = rw (apart continues_word 44 c refl k, apart continues_word 58 c refl k, apart continues_word 41 c refl k, apart continues_word 93 c refl k, apart continues_word 125 c refl k) at h in cc)
+    go true k = absurd (let no : false ≡ true = rw (
+      apart continues_word 44 c refl k,
+      apart continues_word 58 c refl k,
+      apart continues_word 41 c refl k,
+      apart continues_word 93 c refl k,
+      apart continues_word 125 c refl k,
+    ) at h in cc)
     go false k = refl
 
 raw_clear : Clear in_raw_name
 unfolding unicode_ident
-raw_clear = record { stop = (refl, refl, refl, refl, refl); range = (refl, (refl, (refl, (refl, (refl, tt))))); blank = (refl, refl, refl, refl, refl, refl); slash = refl; hash = refl }
+raw_clear = record {
+  stop = (refl, refl, refl, refl, refl);
+  range = (refl, (refl, (refl, (refl, (refl, tt)))));
+  blank = (refl, refl, refl, refl, refl, refl);
+  slash = refl;
+  hash = refl;
+}
 
 by_number : (P : ℕ → Type 0) (c n : ℕ) → (c == n) ≡ true → P n → P c
 by_number P c n e h = rw (eqb-true c n e) h
@@ -56,7 +71,8 @@ word_no_gap c h = go (in_raw_name c) refl (c == 34) refl (c == 39) refl h
     P : ℕ → Type 0
     P n = (is_blank n ≡ false) × ((n == 47) ≡ false)
 
-    go : (a : Bool) → in_raw_name c ≡ a → (b : Bool) → (c == 34) ≡ b → (d : Bool) → (c == 39) ≡ d → (a || (b || (d || (c == 35)))) ≡ true → (is_blank c ≡ false) × ((c == 47) ≡ false)
+    go : (a : Bool) → in_raw_name c ≡ a → (b : Bool) → (c == 34) ≡ b → (d : Bool) → (c == 39) ≡ d → (a || (b || (d || (c == 35)))) ≡ true
+        → (is_blank c ≡ false) × ((c == 47) ≡ false)
     go true e b f d g k = (no_blank in_raw_name raw_clear c e, apart in_raw_name 47 c raw_clear.slash e)
     go false e true f d g k = by_number P c 34 f (refl, refl)
     go false e false f true g k = by_number P c 39 g (refl, refl)
@@ -113,13 +129,21 @@ quiet_begins (c ∷ w) [] [] h q = refl
 quiet_begins (c ∷ w) [] (d ∷ next) h q = go (d == c) refl
   where
     go : (b : Bool) → (d == c) ≡ b → (b && begins_with w next) ≡ false
-    go true e = absurd (let same : d ≡ c = eqb-true d c e in let k = (and_parts (continues_word c) (list_all continues_word w) h).0 in let no : true ≡ false = sym k ∙ ap continues_word (sym same) ∙ q in cc)
+    go true e = absurd (let same : d ≡ c = eqb-true d c e in let k = (and_parts (continues_word c) (list_all continues_word w) h).0 in
+        let no : true ≡ false = sym k ∙ ap continues_word (sym same) ∙ q in cc)
     go false e = refl
 quiet_begins (c ∷ w) (d ∷ t) next h q = ap (λ b. (d == c) && b) (quiet_begins w t next (and_parts (continues_word c) (list_all continues_word w) h).1 q)
 
 literal_quiet : (t next : Text) → Quiet next → opens_literal (t ++ next) ≡ opens_literal t
 unfolding unicode_ident
-literal_quiet t next q = rw (quiet_begins (codes "b\"") t next refl q, quiet_begins (codes "b'") t next refl q, quiet_begins (codes "br#") t next refl q, quiet_begins (codes "br\"") t next refl q, quiet_begins (codes "r\"") t next refl q, quiet_begins (codes "r#") t next refl q) refl
+literal_quiet t next q = rw (
+  quiet_begins (codes "b\"") t next refl q,
+  quiet_begins (codes "b'") t next refl q,
+  quiet_begins (codes "br#") t next refl q,
+  quiet_begins (codes "br\"") t next refl q,
+  quiet_begins (codes "r\"") t next refl q,
+  quiet_begins (codes "r#") t next refl q,
+) refl
 
 base_quiet : (t next : Text) → Quiet next → opens_base (t ++ next) ≡ opens_base t
 unfolding unicode_ident
@@ -167,14 +191,31 @@ steady_or {A} {L} {M} h k = record { over = go }
     go t next other a (inr z) = inr (k.over t next other a z)
 
 steady_directly : {A B : Type 0} {L : Lang A} {M : A → Lang B} → Steady L → ((a : A) → Steady (M a)) → Steady (Directly L M)
-steady_directly h k = record { over = λ t next other b z. record { value = z.value; left = z.left; right = z.right; split = z.split; first = h.over z.left (z.right ++ next) (z.right ++ other) z.value z.first; second = (k z.value).over z.right next other b z.second } }
+steady_directly h k = record {
+  over = λ t next other b z. record {
+    value = z.value;
+    left = z.left;
+    right = z.right;
+    split = z.split;
+    first = h.over z.left (z.right ++ next) (z.right ++ other) z.value z.first;
+    second = (k z.value).over z.right next other b z.second;
+  };
+}
 
 steady_hex : Steady HexByte
-steady_hex = steady_behind 92 (steady_behind 120 (steady_directly (steady_means hex_digit steady_any) (λ a. steady_means (two_digits a) (steady_means hex_digit steady_any))))
+steady_hex = steady_behind 92
+    (steady_behind 120 (steady_directly (steady_means hex_digit steady_any) (λ a. steady_means (two_digits a) (steady_means hex_digit steady_any))))
 
 hex_bytes_over : (t next other : Text) (bs : List ℕ) → HexBytes t next bs → HexBytes t other bs
 hex_bytes_over t next other [] z = z
-hex_bytes_over t next other (b ∷ bs) z = record { value = z.value; left = z.left; right = z.right; split = z.split; first = steady_hex.over z.left (z.right ++ next) (z.right ++ other) b z.first; second = hex_bytes_over z.right next other bs z.second }
+hex_bytes_over t next other (b ∷ bs) z = record {
+  value = z.value;
+  left = z.left;
+  right = z.right;
+  split = z.split;
+  first = steady_hex.over z.left (z.right ++ next) (z.right ++ other) b z.first;
+  second = hex_bytes_over z.right next other bs z.second;
+}
 
 steady_character : Steady HexCharacter
 steady_character = record { over = λ t next other c z. (z.0, hex_bytes_over t next other (encode_utf8 c) z.1) }
@@ -186,7 +227,11 @@ steady_unicode = steady_behind 92 (steady_behind 117 (steady_behind 123 (record 
     left = z.left;
     right = z.right;
     split = z.split;
-    first = record { value = z.first.value; spelled = record { same = z.first.spelled.same; every = z.first.spelled.every; longest = ap (λ u. begins is_ascii_hexdigit (u ++ other)) z.second.0 }; meant = z.first.meant };
+    first = record {
+      value = z.first.value;
+      spelled = record { same = z.first.spelled.same; every = z.first.spelled.every; longest = ap (λ u. begins is_ascii_hexdigit (u ++ other)) z.second.0 };
+      meant = z.first.meant;
+    };
     second = z.second;
   };
 })))
@@ -231,7 +276,8 @@ light_or {A} {L} {M} h k = record { over = go }
     go t next other a e (inr z) = inr (k.over t next other a e z)
 
 light_continuation : Light Continuation
-light_continuation = light_means (always []) (light_behind 92 (light_or (light_behind 13 (light_run is_line_feed in_continuation)) (light_run is_line_feed in_continuation)))
+light_continuation =
+    light_means (always []) (light_behind 92 (light_or (light_behind 13 (light_run is_line_feed in_continuation)) (light_run is_line_feed in_continuation)))
 
 light_piece : (give : ℕ → Text) {E : Lang Text} → Steady E → Light (StringPiece give E)
 light_piece give h = light_or light_continuation (light (steady_or h (steady_means (if_plain give) steady_any)))
@@ -252,11 +298,13 @@ steady_pieces : {P : Lang Text} → Light P → Steady (Pieces P)
 steady_pieces h = record { over = λ t next other a z. pieces_over h z other }
 
 pub steady_string : Steady String
-steady_string = steady_or (steady_behind 34 (steady_pieces (light_piece itself (steady_means (gives itself) (steady_escape steady_character steady_unicode))))) (steady_behind 114 steady_raw)
+steady_string = steady_or (steady_behind 34 (steady_pieces (light_piece itself (steady_means (gives itself) (steady_escape steady_character steady_unicode)))))
+    (steady_behind 114 steady_raw)
 
 pub steady_byte_string : Steady ByteString
 steady_byte_string = steady_behind 98 (steady_or
-    (steady_behind 34 (steady_pieces (light_piece encode_utf8 (steady_or (steady_means (gives encode_utf8) steady_unicode) (steady_means (gives itself) (steady_escape steady_hex steady_nothing))))))
+    (steady_behind 34 (steady_pieces (light_piece encode_utf8
+    (steady_or (steady_means (gives encode_utf8) steady_unicode) (steady_means (gives itself) (steady_escape steady_hex steady_nothing))))))
     (steady_behind 114 (steady_means utf8 steady_raw)))
 
 -- ---- names and fixed words
@@ -290,10 +338,12 @@ settled_raw_name : Settled RawName
 settled_raw_name = settled_behind 114 (settled_behind 35 (settled_run in_raw_name in_raw_name raw_goes_on))
 
 pub settled_name : Settled Name
-settled_name = settled_or settled_raw_name (settled_when (λ s. not (opens_literal s)) no_literal (settled_not_before is_name_mark mark_goes_on (settled_run starts_name continues_name name_goes_on)))
+settled_name = settled_or settled_raw_name
+    (settled_when (λ s. not (opens_literal s)) no_literal (settled_not_before is_name_mark mark_goes_on (settled_run starts_name continues_name name_goes_on)))
 
 pub settled_untyped_name : Settled UntypedName
-settled_untyped_name = settled_or settled_raw_name (settled_means if_no_value_word (settled_when (λ s. not (opens_literal s)) no_literal (settled_run starts_name continues_name name_goes_on)))
+settled_untyped_name = settled_or settled_raw_name
+    (settled_means if_no_value_word (settled_when (λ s. not (opens_literal s)) no_literal (settled_run starts_name continues_name name_goes_on)))
 
 pub settled_fixed : {A : Type 0} (w : Text) (a : A) → Settled (FixedWord w a)
 settled_fixed w a = record { over = λ t next other b q r z. record { same = z.same; ends = quiet_class continues_name name_goes_on other r; value = z.value } }
@@ -326,22 +376,29 @@ pub record Digits (next other : Text) : Type 0 where
   pub base : (t : Text) → opens_base (t ++ other) ≡ opens_base (t ++ next)
 
 digits_behind : (right next other : Text) → Quiet next → Quiet other → Digits (right ++ next) (right ++ other)
-digits_behind right next other q r = record { first = go right; base = λ t. rw (← append_assoc t right other, ← append_assoc t right next) (base_quiet (t ++ right) other r ∙ sym (base_quiet (t ++ right) next q)) }
+digits_behind right next other q r = record {
+  first = go right;
+  base = λ t. rw (← append_assoc t right other, ← append_assoc t right next) (base_quiet (t ++ right) other r ∙ sym (base_quiet (t ++ right) next q));
+}
   where
     go : (right : Text) → begins in_number (right ++ other) ≡ begins in_number (right ++ next)
     go [] = quiet_class in_number number_goes_on other r ∙ sym (quiet_class in_number number_goes_on next q)
     go (c ∷ right) = refl
 
 in_base_over : (base : ℕ) (t next other : Text) (n : ℕ) → Digits next other → InBase base t next n → InBase base t other n
-in_base_over base t next other n h z = record { value = z.value; spelled = record { same = z.spelled.same; every = z.spelled.every; longest = h.first ∙ z.spelled.longest }; meant = z.meant }
+in_base_over base t next other n h z =
+    record { value = z.value; spelled = record { same = z.spelled.same; every = z.spelled.every; longest = h.first ∙ z.spelled.longest }; meant = z.meant }
 
 behind_over : (c : ℕ) (L : Lang ℕ) (t next other : Text) (n : ℕ) → ((u : Text) → L u next n → L u other n) → Behind c L t next n → Behind c L t other n
 behind_over c L t next other n h z = record { rest = z.rest; split = z.split; spelled = h z.rest z.spelled }
 
 pub magnitude_over : (t next other : Text) (n : ℕ) → Digits next other → Magnitude t next n → Magnitude t other n
-magnitude_over t next other n h (inl z) = inl (behind_over 48 (Behind 98 (InBase 2)) t next other n (λ u. behind_over 98 (InBase 2) u next other n (λ v. in_base_over 2 v next other n h)) z)
-magnitude_over t next other n h (inr (inl z)) = inr (inl (behind_over 48 (Behind 111 (InBase 8)) t next other n (λ u. behind_over 111 (InBase 8) u next other n (λ v. in_base_over 8 v next other n h)) z))
-magnitude_over t next other n h (inr (inr (inl z))) = inr (inr (inl (behind_over 48 (Behind 120 (InBase 16)) t next other n (λ u. behind_over 120 (InBase 16) u next other n (λ v. in_base_over 16 v next other n h)) z)))
+magnitude_over t next other n h (inl z) =
+    inl (behind_over 48 (Behind 98 (InBase 2)) t next other n (λ u. behind_over 98 (InBase 2) u next other n (λ v. in_base_over 2 v next other n h)) z)
+magnitude_over t next other n h (inr (inl z)) =
+    inr (inl (behind_over 48 (Behind 111 (InBase 8)) t next other n (λ u. behind_over 111 (InBase 8) u next other n (λ v. in_base_over 8 v next other n h)) z))
+magnitude_over t next other n h (inr (inr (inl z))) = inr (inr
+    (inl (behind_over 48 (Behind 120 (InBase 16)) t next other n (λ u. behind_over 120 (InBase 16) u next other n (λ v. in_base_over 16 v next other n h)) z)))
 magnitude_over t next other n h (inr (inr (inr z))) = inr (inr (inr (ap not (h.base t) ∙ z.0, in_base_over 10 t next other n h z.1)))
 
 settled_unsigned : (minus : Bool) → Settled (Unsigned minus)
@@ -371,10 +428,12 @@ sign_quiet [] (c ∷ next) q = go ((c == 43) || (c == 45)) refl
     go : (b : Bool) → ((c == 43) || (c == 45)) ≡ b → ◌≡◌ {A = Text} (cond b next (c ∷ next)) (c ∷ next)
     go true e = absurd (let k : continues_word c ≡ true = grind arith in let no : true ≡ false = sym k ∙ q in cc)
     go false e = refl
-sign_quiet (c ∷ t) next q = elim ((c == 43) || (c == 45)) as (λ b. ◌≡◌ {A = Text} (cond b (t ++ next) (c ∷ (t ++ next))) (cond b t (c ∷ t) ++ next)) [ true ↦ refl | false ↦ refl ]
+sign_quiet (c ∷ t) next q =
+    elim ((c == 43) || (c == 45)) as (λ b. ◌≡◌ {A = Text} (cond b (t ++ next) (c ∷ (t ++ next))) (cond b t (c ∷ t) ++ next)) [ true ↦ refl | false ↦ refl ]
 
 float_quiet : (t next : Text) → Quiet next → is_float (t ++ next) ≡ is_float t
-float_quiet t next q = rw (sign_quiet t next q, run_quiet in_number number_goes_on (past_sign t) next q, run_quiet in_float float_goes_on (past_sign t) next q) refl
+float_quiet t next q =
+    rw (sign_quiet t next q, run_quiet in_number number_goes_on (past_sign t) next q, run_quiet in_float float_goes_on (past_sign t) next q) refl
 
 pub steady_byte_numeral : Steady (Means Byte byte_numeral)
 steady_byte_numeral = steady_means byte_numeral steady_byte

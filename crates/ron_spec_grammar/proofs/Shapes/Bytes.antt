@@ -30,19 +30,24 @@ byte_opens room = record { holds = λ t next b z. any_integer_solid.holds t next
 
 module _ {room step : ℕ} (m : ℕ) (le : m ≤ room) where
   pub part_byte : Part room step false AnyValue (byte_item m) (byte_item room) (ByteItem room) FollowsValue 2
-  part_byte = part_needs 2 m le (omega arith) (part_means as_byte (λ _ _ _ _ _. tt) (part_word word_any_integer (first_solid any_integer_solid) passes_any_integer))
+  part_byte =
+      part_needs 2 m le (omega arith) (part_means as_byte (λ _ _ _ _ _. tt) (part_word word_any_integer (first_solid any_integer_solid) passes_any_integer))
 
 module _ {schema : List Shape} {room : ℕ} (m : ℕ) (le : m ≤ room) {i : ℕ} (s : slice_get schema i ≡ Some bytes) where
   is_bytes : (bs : List ℕ) (d : Data) → bytes_data bs ≡ Some d → IsDataOf schema room 0 i d
   is_bytes bs d e = let same : bytes_of bs ≡ d = cc in rw (← same) (record { of_shape = λ _. s })
 
-  content : (gap : Text) → Part room (step schema) true (IsDataOf schema room 0 i) (needs 1 m (means (items (λ _ _. byte_item m) right_bracket gap) bytes_data)) (needs 1 room (means (items (λ _ _. byte_item room) right_bracket gap) bytes_data))
+  content : (gap : Text) → Part room (step schema) true (IsDataOf schema room 0 i) (needs 1 m (means (items (λ _ _. byte_item m) right_bracket gap) bytes_data))
+      (needs 1 room (means (items (λ _ _. byte_item room) right_bracket gap) bytes_data))
       (Needs 1 room (Means (Items (λ _ _. ByteItem room) gap) bytes_data)) (Before right_bracket) 2
   content gap = part_needs 1 m le (omega arith) (part_means bytes_data (λ bs d _ e _. is_bytes bs d e)
-      (part_items (λ _ _. byte_item m) (λ _ _. byte_item room) (λ _ _. ByteItem room) right_bracket refl refl (λ _ _. byte_opens room) (λ _ _. part_byte m le) gap))
+      (part_items (λ _ _. byte_item m) (λ _ _. byte_item room) (λ _ _. ByteItem room) right_bracket refl refl (λ _ _. byte_opens room) (λ _ _. part_byte m le)
+      gap))
 
-  pub part_bytes : (base : ℕ → ℕ) (bare : Bool) → Part room (step schema) bare (IsDataOf schema room 0 i) (read_bytes m bare) (read_bytes room bare) (BytesText room bare) (After bare) (size schema base bare i)
-  part_bytes base bare = part_plain bare (part_choose (is_at left_bracket) (first_then (first_mark _ left_bracket done (λ s. refl))) (first_means (first_byte_string (λ t. is_at left_bracket t ≡ false) (λ t. refl) (λ t. refl)))
+  pub part_bytes : (base : ℕ → ℕ) (bare : Bool) → Part room (step schema) bare (IsDataOf schema room 0 i) (read_bytes m bare) (read_bytes room bare)
+      (BytesText room bare) (After bare) (size schema base bare i)
+  part_bytes base bare = part_plain bare (part_choose (is_at left_bracket) (first_then (first_mark _ left_bracket done (λ s. refl)))
+      (first_means (first_byte_string (λ t. is_at left_bracket t ≡ false) (λ t. refl) (λ t. refl)))
       (part_group left_bracket right_bracket (size schema base bare i) refl refl content (omega (arith, step_is schema)))
       (part_means bytes_data (λ bs d _. is_bytes bs d) (part_word word_byte_string (first_solid byte_string_solid) passes_byte_string)))
 

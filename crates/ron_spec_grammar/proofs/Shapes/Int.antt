@@ -19,7 +19,8 @@ module _ {schema : List Shape} {room i : ℕ} (w : Width) (s : slice_get schema 
   is_int : (n : Numeral) (d : Data) → in_width w n ≡ Some d → IsDataOf schema room 0 i d
   is_int n d e = go (suits w n.suffix && fits w (numeral_value n)) refl e
     where
-      go : (b : Bool) → (suits w n.suffix && fits w (numeral_value n)) ≡ b → cond b (Some (int_of w (numeral_value n))) None ≡ Some d → IsDataOf schema room 0 i d
+      go : (b : Bool) → (suits w n.suffix && fits w (numeral_value n)) ≡ b → cond b (Some (int_of w (numeral_value n))) None ≡ Some d
+          → IsDataOf schema room 0 i d
       go true k q =
           let same : int_of w (numeral_value n) ≡ d = cc in
           let fit = (and_parts (suits w n.suffix) (fits w (numeral_value n)) k).1 in
@@ -27,7 +28,8 @@ module _ {schema : List Shape} {room i : ℕ} (w : Width) (s : slice_get schema 
       go false k q = absurd (cc)
 
   pub part_int : {step e : ℕ} (bare : Bool) → Part room step bare (IsDataOf schema room 0 i) (read_int w bare) (read_int w bare) (IntText w bare) (After bare) e
-  part_int bare = part_plain bare (part_means (in_width w) (λ n d _. is_int n d) (part_word word_any_integer (first_solid any_integer_solid) passes_any_integer))
+  part_int bare =
+      part_plain bare (part_means (in_width w) (λ n d _. is_int n d) (part_word word_any_integer (first_solid any_integer_solid) passes_any_integer))
 
 pub int_opens : (w : Width) → Opens (IntText w false)
 int_opens w = first_means any_integer_solid

@@ -26,7 +26,8 @@ module _ (schema : List Shape) (room k v : ℕ) where
   abbrev IsPair : Data × Data → Type 0
   IsPair p = IsDataOf schema room 2 k p.0 × IsDataOf schema room 2 v p.1
 
-  pairs_are : (ps : Pairs) → ArePairs (IsDataOf schema room 2 k) (IsDataOf schema room 2 v) ps → list_all has_distinct_names schema ≡ true → PairsOfShape schema k v ps
+  pairs_are : (ps : Pairs) → ArePairs (IsDataOf schema room 2 k) (IsDataOf schema room 2 v) ps → list_all has_distinct_names schema ≡ true
+      → PairsOfShape schema k v ps
   pairs_are no_pairs h = (λ _. tt)
   pairs_are (pair_and key d ps) h =
       let z = pairs_are ps h.2 in
@@ -35,14 +36,18 @@ module _ (schema : List Shape) (room k v : ℕ) where
 -- ---- the text
 
 -- of readers two levels down
-module _ (schema : List Shape) (room : ℕ) {base : ℕ → ℕ} (q r : Readers) (L : Langs) (h : Fit schema base room 2 q r L) (e : ℕ) (wide : (j : ℕ) → size schema base false j + 2 ≤ e) (k v : ℕ) where
-  pub part_pair : (before : Text) → Part room (step schema) false (IsPair schema room k v) (pair_item k v q before) (pair_item k v r before) (PairItem k v L before) FollowsValue e
+module _ (schema : List Shape) (room : ℕ) {base : ℕ → ℕ} (q r : Readers) (L : Langs) (h : Fit schema base room 2 q r L) (e : ℕ)
+    (wide : (j : ℕ) → size schema base false j + 2 ≤ e) (k v : ℕ) where
+  pub part_pair : (before : Text)
+      → Part room (step schema) false (IsPair schema room k v) (pair_item k v q before) (pair_item k v r before) (PairItem k v L before) FollowsValue e
   part_pair before = part_chain (part_more (h.part false k before) (wide k))
       (λ key _. part_behind (word_mark colon done) (first_mark _ colon done (λ s. refl)) (passes_colon done)
-      (λ gap. part_means (pair_with key) (λ d pair p e is_key. let same : (key, d) ≡ pair = cc in rw (← same) (is_key, p)) (part_more (h.part false v gap) (wide v))))
+      (λ gap.
+      part_means (pair_with key) (λ d pair p e is_key. let same : (key, d) ≡ pair = cc in rw (← same) (is_key, p)) (part_more (h.part false v gap) (wide v))))
       (λ a gap right next b g z f. stops_gap gap (right ++ next) g (rw (z.split, z.first.0) refl))
 
-module _ {schema : List Shape} {room top : ℕ} {base : ℕ → ℕ} (sizes : Sizes schema top base) (m : ℕ) (le : m ≤ room) (q r : ℕ → Readers) (L : ℕ → Langs) (h : Fit schema base room 2 (q 1) (r 1) (L 1)) (k v i : ℕ) (s : slice_get schema i ≡ Some (map k v)) where
+module _ {schema : List Shape} {room top : ℕ} {base : ℕ → ℕ} (sizes : Sizes schema top base) (m : ℕ) (le : m ≤ room) (q r : ℕ → Readers) (L : ℕ → Langs)
+    (h : Fit schema base room 2 (q 1) (r 1) (L 1)) (k v i : ℕ) (s : slice_get schema i ≡ Some (map k v)) where
   is_map : (ps : List (Data × Data)) (d : Data) → Each (IsPair schema room k v) ps → map_data ps ≡ Some d → 1 ≤ room → IsDataOf schema room 0 i d
   is_map ps d items e le =
       let same : map_of (folded ps) ≡ d = cc in
@@ -50,13 +55,17 @@ module _ {schema : List Shape} {room top : ℕ} {base : ℕ → ℕ} (sizes : Si
       rw (← same) (record { of_shape = λ formed. (k, v, s, z formed) })
 
   content : (gap : Text)
-      → Part room (step schema) true (IsDataOf schema room 0 i) (needs 1 m (means (items (λ _. pair_item k v (q 1)) right_brace gap) map_data)) (needs 1 room (means (items (λ _. pair_item k v (r 1)) right_brace gap) map_data))
+      → Part room (step schema) true (IsDataOf schema room 0 i) (needs 1 m (means (items (λ _. pair_item k v (q 1)) right_brace gap) map_data))
+      (needs 1 room (means (items (λ _. pair_item k v (r 1)) right_brace gap) map_data))
       (Needs 1 room (Means (Items (λ _. PairItem k v (L 1)) gap) map_data)) (Before right_brace) (size schema base true i)
   content gap = let w = size_within schema sizes i i in
       part_needs 1 m le (omega (arith, w)) (part_means map_data (λ ps d. is_map ps d)
-      (part_items (λ _. pair_item k v (q 1)) (λ _. pair_item k v (r 1)) (λ _. PairItem k v (L 1)) right_brace refl refl (λ _ before. first_then (h.opens k before)) (λ _ before. part_pair schema room (q 1) (r 1) (L 1) h (size schema base true i) (λ j. size_within schema sizes i j) k v before) gap))
+      (part_items (λ _. pair_item k v (q 1)) (λ _. pair_item k v (r 1)) (λ _. PairItem k v (L 1)) right_brace refl refl
+      (λ _ before. first_then (h.opens k before))
+      (λ _ before. part_pair schema room (q 1) (r 1) (L 1) h (size schema base true i) (λ j. size_within schema sizes i j) k v before) gap))
 
-  pub part_map : (bare : Bool) → Part room (step schema) bare (IsDataOf schema room 0 i) (read_map k v m q bare) (read_map k v room r bare) (MapText k v room L bare) (After bare) (size schema base bare i)
+  pub part_map : (bare : Bool) → Part room (step schema) bare (IsDataOf schema room 0 i) (read_map k v m q bare) (read_map k v room r bare)
+      (MapText k v room L bare) (After bare) (size schema base bare i)
   part_map bare = part_plain bare (part_group left_brace right_brace (size schema base bare i) refl refl content (size_inside schema sizes bare i))
 
 pub map_opens : (k v room : ℕ) (L : ℕ → Langs) → Opens (MapText k v room L false)

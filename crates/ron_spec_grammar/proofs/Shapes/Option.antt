@@ -29,18 +29,21 @@ use Rattle.ron_spec_grammar.proofs.Rule.{After, IsDataOf, Fit, part_plain, part_
 -- ---- the second where the first's test fails
 
 module _ {room step : ℕ} {commas : Bool} {A : Type 0} {P : A → Type 0} (p : Text → Bool) {q r f g : Reader A} {L M : Lang A} {F : Text → Type 0} {e : ℕ} where
-  either_sound : First (λ s. p s ≡ true) L → Part room step commas P q r L F e → Part room step commas P f g M F e → Sound (pick p r g) (Or L (When (λ s. not (p s)) M))
+  either_sound : First (λ s. p s ≡ true) L → Part room step commas P q r L F e → Part room step commas P f g M F e
+      → Sound (pick p r g) (Or L (When (λ s. not (p s)) M))
   either_sound l h k = sound_like _ _ _ to (sound_pick p r g L M h.exact.sound k.exact.sound)
     where
       to : (t next : Text) (a : A) → Or (When p L) (When (λ s. not (p s)) M) t next a → Or L (When (λ s. not (p s)) M) t next a
       to t next a (inl z) = inl z.1
       to t next a (inr z) = inr z
 
-  either_complete : First (λ s. p s ≡ true) L → Part room step commas P q r L F e → Part room step commas P f g M F e → Complete (pick p r g) (Or L (When (λ s. not (p s)) M)) F
+  either_complete : First (λ s. p s ≡ true) L → Part room step commas P q r L F e → Part room step commas P f g M F e
+      → Complete (pick p r g) (Or L (When (λ s. not (p s)) M)) F
   either_complete l h k t next a (inl z) y n = answers_left p r g t next a (l.holds t next a z) (h.exact.complete t next a z y n)
   either_complete l h k t next a (inr z) y n = answers_right p r g t next a (not-true _ z.0) (k.exact.complete t next a z.1 y n)
 
-  pub part_else : First (λ s. p s ≡ true) L → Part room step commas P q r L F e → Part room step commas P f g M F e → Part room step commas P (pick p q f) (pick p r g) (Or L (When (λ s. not (p s)) M)) F e
+  pub part_else : First (λ s. p s ≡ true) L → Part room step commas P q r L F e → Part room step commas P f g M F e
+      → Part room step commas P (pick p q f) (pick p r g) (Or L (When (λ s. not (p s)) M)) F e
   part_else l h k = record {
     exact = record { sound = either_sound l h k; complete = either_complete l h k };
     begins = begins_or h.begins (record { no_slash = λ t next a z. k.begins.no_slash t next a z.1 });
@@ -87,9 +90,11 @@ module _ (bare unwrap : Bool) (j : ℕ) (L : Langs) where
 pub optional_content : (schema : List Shape) (i j : ℕ) → slice_get schema i ≡ Some (optional j) → content_at schema i ≡ Some j
 optional_content schema i j s = ap (option_and_then content_of) s
 
-module _ {schema : List Shape} {room top : ℕ} {base : ℕ → ℕ} (sizes : Sizes schema top base) (q r : Readers) (L : Langs) (k : ℕ) (h : Fit schema base room k q r L) (j : ℕ) where
+module _ {schema : List Shape} {room top : ℕ} {base : ℕ → ℕ} (sizes : Sizes schema top base) (q r : Readers) (L : Langs) (k : ℕ)
+    (h : Fit schema base room k q r L) (j : ℕ) where
   -- what stands between the brackets of a Some or of a newtype variant
-  pub part_content : (b : Bool) (gap : Text) → Part room (step schema) true (IsDataOf schema room k j) (content b q j gap) (content b r j gap) (Content b L j gap) (Before right_parenthesis) (size schema base true j + k)
+  pub part_content : (b : Bool) (gap : Text) → Part room (step schema) true (IsDataOf schema room k j) (content b q j gap) (content b r j gap)
+      (Content b L j gap) (Before right_parenthesis) (size schema base true j + k)
   part_content false gap = part_with_comma (part_more (h.part false j gap) (omega arith))
   part_content true gap = h.part true j gap
 
@@ -98,22 +103,29 @@ pub past_room : {d e room top : ℕ} → room ≤ top → (d ≤ e) ⊎ (top < e
 past_room le (inl z) = inl z
 past_room le (inr z) = inr (omega (arith, le, z))
 
-module _ {schema : List Shape} {room top : ℕ} {base : ℕ → ℕ} (sizes : Sizes schema top base) (within : room ≤ top) (x : Extensions) (q r : ℕ → Readers) (L : ℕ → Langs) (h : Fit schema base room 1 (q 0) (r 0) (L 0)) (f g : Readers) (M : Langs) (k : Fit schema base room 1 f g M) (j i : ℕ) (s : slice_get schema i ≡ Some (optional j)) where
+module _ {schema : List Shape} {room top : ℕ} {base : ℕ → ℕ} (sizes : Sizes schema top base) (within : room ≤ top) (x : Extensions) (q r : ℕ → Readers)
+    (L : ℕ → Langs) (h : Fit schema base room 1 (q 0) (r 0) (L 0)) (f g : Readers) (M : Langs) (k : Fit schema base room 1 f g M) (j i : ℕ)
+    (s : slice_get schema i ≡ Some (optional j)) where
   is_none : (u : Done) (d : Data) → none_data u ≡ Some d → IsDataOf schema room 0 i d
   is_none u d e = let same : the_none ≡ d = cc in rw (← same) (record { of_shape = λ _. (j, s) })
 
   is_some : (c d : Data) → IsDataOf schema room 1 j c → some_data c ≡ Some d → IsDataOf schema room 0 i d
   is_some c d p e = let same : some_of c ≡ d = cc in rw (← same) (record { of_shape = λ formed. (j, s, p.of_shape formed) })
 
-  pub part_option : (bare : Bool) (before : Text) → Part room (step schema) bare (IsDataOf schema room 0 i) (read_option x j q f bare before) (read_option x j r g bare before) (OptionText x j L M bare before) (After bare) (size schema base bare i)
+  pub part_option : (bare : Bool) (before : Text) → Part room (step schema) bare (IsDataOf schema room 0 i) (read_option x j q f bare before)
+      (read_option x j r g bare before) (OptionText x j L M bare before) (After bare) (size schema base bare i)
   part_option bare before =
       let unwrap = x.unwrap_variant_newtypes in
       part_choose (stands (codes "None")) (first_plain bare none_first) (not_none bare unwrap j (L 0) _)
-      (part_plain bare (part_means none_data (λ u d _. is_none u d) (part_word (word_fixed (codes "None") done) (first_solid (record { holds = λ t next u z. rw z.same (solid_mark 78 (codes "one" ++ next) refl refl refl) })) (passes_fixed (codes "None") done plain_words.2))))
+      (part_plain bare (part_means none_data (λ u d _. is_none u d) (part_word (word_fixed (codes "None") done) (first_solid
+      (record { holds = λ t next u z. rw z.same (solid_mark 78 (codes "one" ++ next) refl refl refl) })) (passes_fixed (codes "None") done plain_words.2))))
       (part_else opens_option (opens_first bare unwrap j (L 0))
       (part_plain bare (part_behind (word_fixed (codes "Some") done) (first_solid some_solid) (passes_fixed (codes "Some") done plain_words.3)
-      (λ _. part_means some_data is_some (part_group left_parenthesis right_parenthesis (size schema base bare i) refl refl (part_content sizes (q 0) (r 0) (L 0) 1 h j unwrap) (let w = size_content schema sizes bare i j in omega (arith, w))))))
-      (part_allowed x.implicit_some (part_means some_data is_some (part_either (k.part bare j before) (past_room within (size_chain schema sizes bare i j (optional_content schema i j s)))))))
+      (λ _. part_means some_data is_some (part_group left_parenthesis right_parenthesis (size schema base bare i) refl refl
+      (part_content sizes (q 0) (r 0) (L 0) 1 h j unwrap) (let w = size_content schema sizes bare i j in omega (arith, w))))))
+      (part_allowed x.implicit_some (part_means some_data is_some
+      (part_either (k.part bare j before) (past_room within (size_chain schema sizes bare i j (optional_content schema i j s)))))))
 
 pub option_opens : (x : Extensions) (j : ℕ) (L : ℕ → Langs) (M : Langs) (before : Text) → Opens (M false j before) → Opens (OptionText x j L M false before)
-option_opens x j L M before h = first_or none_solid (first_or (first_then some_solid) (first_when (λ s. not (opens_option s)) (first_allowed x.implicit_some (first_means h))))
+option_opens x j L M before h =
+    first_or none_solid (first_or (first_then some_solid) (first_when (λ s. not (opens_option s)) (first_allowed x.implicit_some (first_means h))))

@@ -47,17 +47,23 @@ module _ {room step : ℕ} where
   }
 
   module _ (wide : 6 ≤ step) (u : Bool) (m : ℕ) (le : m ≤ room) (at_start : Bool) (before : Text) where
-    pub part_raw_part : Part room step false (λ t. raw_valid t ≡ true) (raw_part u m at_start before) (raw_part u room at_start before) (RawPart u room at_start before) FollowsValue 0
+    pub part_raw_part : Part room step false (λ t. raw_valid t ≡ true) (raw_part u m at_start before) (raw_part u room at_start before)
+        (RawPart u room at_start before) FollowsValue 0
     part_raw_part = part_chain (part_stretch ((any_within wide u m room le).part false before))
-        (λ core after. part_means {P = AnyValue} (taken at_start before core after) (λ _ t _ e _. is_valid (raw_text before core after at_start) t e) (part_end done))
+        (λ core after.
+        part_means {P = AnyValue} (taken at_start before core after) (λ _ t _ e _. is_valid (raw_text before core after at_start) t e) (part_end done))
         (λ core gap right next b g z f. stops_gap gap (right ++ next) g (rw z.spelled.0 (stops_here next f (rw z.spelled.0 at g.longest))))
 
-module _ {schema : List Shape} {room : ℕ} (x : Extensions) (m : ℕ) (le : m ≤ room) (base : ℕ → ℕ) (i : ℕ) (s : slice_get schema i ≡ Some any_raw) (at_start : Bool) where
+module _ {schema : List Shape} {room : ℕ} (x : Extensions) (m : ℕ) (le : m ≤ room) (base : ℕ → ℕ) (i : ℕ) (s : slice_get schema i ≡ Some any_raw)
+    (at_start : Bool) where
   is_raw : (t : Text) (d : Data) → raw_valid t ≡ true → raw_data t ≡ Some d → IsDataOf schema room 0 i d
   is_raw t d v e = let same : raw_of t ≡ d = cc in rw (← same) (record { of_shape = λ _. (s, v) })
 
-  pub part_raw : (bare : Bool) (before : Text) → Part room (step schema) bare (IsDataOf schema room 0 i) (read_raw x m at_start bare before) (read_raw x room at_start bare before) (RawText x room at_start bare before) (After bare) (size schema base bare i)
-  part_raw bare before = part_plain bare (part_more (part_means raw_data is_raw (part_raw_part (omega (arith, step_is schema)) x.unwrap_variant_newtypes m le at_start before)) (omega arith))
+  pub part_raw : (bare : Bool) (before : Text) → Part room (step schema) bare (IsDataOf schema room 0 i) (read_raw x m at_start bare before)
+      (read_raw x room at_start bare before) (RawText x room at_start bare before) (After bare) (size schema base bare i)
+  part_raw bare before = part_plain bare
+      (part_more (part_means raw_data is_raw (part_raw_part (omega (arith, step_is schema)) x.unwrap_variant_newtypes m le at_start before)) (omega arith))
 
 pub raw_opens : (x : Extensions) (room : ℕ) (at_start : Bool) (before : Text) → Opens (RawText x room at_start false before)
-raw_opens x room at_start before = first_means (first_then (first_stretch ((any_within {step = 6} (omega arith) x.unwrap_variant_newtypes room room (omega arith)).opens before)))
+raw_opens x room at_start before =
+    first_means (first_then (first_stretch ((any_within {step = 6} (omega arith) x.unwrap_variant_newtypes room room (omega arith)).opens before)))

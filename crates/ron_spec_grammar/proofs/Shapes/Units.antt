@@ -91,13 +91,18 @@ module _ (name : Text) (required : Bool) {schema : List Shape} {room i : ℕ} (s
       go true q = is_unit_struct done d q
       go false q = absurd (cc)
 
-  pub part_unit_struct : {step e : ℕ} (bare : Bool) → Part room step bare (IsDataOf schema room 0 i) (read_unit_struct required name bare) (read_unit_struct required name bare) (UnitStructText required name bare) (After bare) e
+  pub part_unit_struct : {step e : ℕ} (bare : Bool) → Part room step bare (IsDataOf schema room 0 i) (read_unit_struct required name bare)
+      (read_unit_struct required name bare) (UnitStructText required name bare) (After bare) e
   part_unit_struct false = part_choose opens_interval (range_begins false (full_data name))
       (first_or (first_without required (first_means (first_empty (λ t. opens_interval t ≡ false) (λ t. refl)))) (first_means (first_means name_no_interval)))
-      (part_range false (full_data name) is_full) (part_choose (is_at left_parenthesis) (first_without required (first_means (first_empty (λ t. is_at left_parenthesis t ≡ true) (λ t. refl)))) (first_means (first_means name_no_bracket))
+      (part_range false (full_data name) is_full) (part_choose (is_at left_parenthesis)
+      (first_without required (first_means (first_empty (λ t. is_at left_parenthesis t ≡ true) (λ t. refl)))) (first_means (first_means name_no_bracket))
       (part_without required (part_means (unit_struct_data name) (λ u d _. is_unit_struct u d) (part_word word_empty (first_solid empty_solid) passes_empty)))
-      (part_means (unit_struct_data name) (λ u d _. is_unit_struct u d) (part_word (word_named name) (first_means (first_solid name_solid)) (passes_named name))))
-  part_unit_struct true = part_tell opens_interval (starts_first (Before right_parenthesis) (range_begins true (full_data name))) (starts_means (comma_no_span done)) (part_range true (full_data name) is_full) (part_means (unit_struct_data name) (λ u d _. is_unit_struct u d) part_comma)
+      (part_means (unit_struct_data name) (λ u d _. is_unit_struct u d)
+      (part_word (word_named name) (first_means (first_solid name_solid)) (passes_named name))))
+  part_unit_struct true =
+      part_tell opens_interval (starts_first (Before right_parenthesis) (range_begins true (full_data name))) (starts_means (comma_no_span done))
+      (part_range true (full_data name) is_full) (part_means (unit_struct_data name) (λ u d _. is_unit_struct u d) part_comma)
 
 pub bool_opens : Opens (BoolText false)
 bool_opens = first_means boolean_solid
@@ -106,4 +111,5 @@ pub unit_opens : Opens (UnitText false)
 unit_opens = first_means empty_solid
 
 pub unit_struct_opens : (required : Bool) (name : Text) → Opens (UnitStructText required name false)
-unit_struct_opens required name = first_or (first_means interval_solid) (first_or (first_without required (first_means empty_solid)) (first_means (first_means name_solid)))
+unit_struct_opens required name =
+    first_or (first_means interval_solid) (first_or (first_without required (first_means empty_solid)) (first_means (first_means name_solid)))

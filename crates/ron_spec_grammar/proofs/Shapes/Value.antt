@@ -42,8 +42,10 @@ mutual
   pairs_as_deep (tree.pair_and k t ps) = ap₂ max (ap₂ (λ m n. max (1 + m) (1 + n)) (as_deep k) (as_deep t)) (pairs_as_deep ps)
 
 module _ {schema : List Shape} {room : ℕ} (x : Extensions) (m : ℕ) (le : m ≤ room) (base : ℕ → ℕ) (i : ℕ) (s : slice_get schema i ≡ Some any_value) where
-  pub part_any_value : (bare : Bool) (before : Text) → Part room (step schema) bare (IsDataOf schema room 0 i) (read_any_value x m bare before) (read_any_value x room bare before) (ValueText x room bare before) (After bare) (size schema base bare i)
-  part_any_value bare before = part_more (part_means value_data is_data ((any_within (omega (arith, step_is schema)) x.unwrap_variant_newtypes m room le).part bare before)) (enough bare)
+  pub part_any_value : (bare : Bool) (before : Text) → Part room (step schema) bare (IsDataOf schema room 0 i) (read_any_value x m bare before)
+      (read_any_value x room bare before) (ValueText x room bare before) (After bare) (size schema base bare i)
+  part_any_value bare before = part_more
+      (part_means value_data is_data ((any_within (omega (arith, step_is schema)) x.unwrap_variant_newtypes m room le).part bare before)) (enough bare)
     where
       is_data : (t : Tree) (d : Data) → IsValueIn room 0 t → value_data t ≡ Some d → IsDataOf schema room 0 i d
       is_data t d v e = let same : value_of t ≡ d = cc in let deep = as_deep t in rw (← same) (record { of_shape = λ _. (s, v.value) })

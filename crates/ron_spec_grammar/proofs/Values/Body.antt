@@ -30,9 +30,11 @@ module _ (u : Bool) where
   stops_after limit text t z = rw (skip_to_end z.after z.is_after) refl
 
   -- the answer for a text of these parts
-  answer_of : (limit n : ℕ) (text : Text) (t : Tree) (z : ValueBody u n text t) → answer_value u limit text ≡ all_of (read_any u limit false z.before (z.value ++ z.after))
+  answer_of : (limit n : ℕ) (text : Text) (t : Tree) (z : ValueBody u n text t)
+      → answer_value u limit text ≡ all_of (read_any u limit false z.before (z.value ++ z.after))
   unfolding answer_value
-  answer_of limit n text t z = ap all_of (ap (after_gap (read_any u limit false)) z.split ∙ after_gap_at (read_any u limit false) z.before (z.value ++ z.after) z.is_before (place.no_slash u n z.before z.value z.after t z.spelled))
+  answer_of limit n text t z = ap all_of (ap (after_gap (read_any u limit false)) z.split
+      ∙ after_gap_at (read_any u limit false) z.before (z.value ++ z.after) z.is_before (place.no_slash u n z.before z.value z.after t z.spelled))
 
   pub sound : (limit : ℕ) (text : Text) (t : Tree) → answer_value u limit text ≡ got t [] → ValueBody u limit text t
   unfolding answer_value
@@ -50,7 +52,8 @@ module _ (u : Bool) where
         is_after = gap_to_end k.0 k.2;
       }
 
-  pub any_gaps : (limit : ℕ) (before value after : Text) (t : Tree) → Gap before (value ++ after) → AnySpells u limit false before value after t → Gap after [] → ValueBody u limit (before ++ (value ++ after)) t
+  pub any_gaps : (limit : ℕ) (before value after : Text) (t : Tree) → Gap before (value ++ after) → AnySpells u limit false before value after t → Gap after []
+      → ValueBody u limit (before ++ (value ++ after)) t
   any_gaps limit before value after t g z h = record {
     before = before;
     value = value;
@@ -62,7 +65,8 @@ module _ (u : Bool) where
   }
 
   pub complete : (limit : ℕ) (text : Text) (t : Tree) → ValueBody u limit text t → answer_value u limit text ≡ got t []
-  complete limit text t z = answer_of limit limit text t z ∙ ap all_of (place.complete u limit z.before z.value z.after t z.spelled (stops_after limit text t z)) ∙ ap (ended t) (skip_to_end z.after z.is_after)
+  complete limit text t z = answer_of limit limit text t z
+      ∙ ap all_of (place.complete u limit z.before z.value z.after t z.spelled (stops_after limit text t z)) ∙ ap (ended t) (skip_to_end z.after z.is_after)
 
   pub monotone : (m n : ℕ) (text : Text) (t : Tree) → m ≤ n → ValueBody u m text t → ValueBody u n text t
   monotone m n text t le z = record {
@@ -76,13 +80,16 @@ module _ (u : Bool) where
   }
 
   pub unique : (m n : ℕ) (text : Text) (t v : Tree) → ValueBody u m text t → ValueBody u n text v → t ≡ v
-  unique m n text t v y z = got_same t v (answer_value u (m + n) text) (complete (m + n) text t (monotone m (m + n) text t (omega arith) y)) (complete (m + n) text v (monotone n (m + n) text v (omega arith) z))
+  unique m n text t v y z = got_same t v (answer_value u (m + n) text) (complete (m + n) text t (monotone m (m + n) text t (omega arith) y))
+      (complete (m + n) text v (monotone n (m + n) text v (omega arith) z))
 
   pub too_deep : (limit n : ℕ) (text : Text) (t : Tree) → ValueBody u n text t → (ValueBody u limit text t → ⊥) → answer_value u limit text ≡ failed deep
-  too_deep limit n text t z other = answer_of limit n text t z ∙ ap all_of (place.too_deep u limit n z.before z.value z.after t z.spelled (stops_after n text t z) refuse)
+  too_deep limit n text t z other =
+      answer_of limit n text t z ∙ ap all_of (place.too_deep u limit n z.before z.value z.after t z.spelled (stops_after n text t z) refuse)
     where
       refuse : AnySpells u limit false z.before z.value z.after t → ⊥
-      refuse s = other (record { before = z.before; value = z.value; after = z.after; split = z.split; is_before = z.is_before; spelled = s; is_after = z.is_after })
+      refuse s =
+          other (record { before = z.before; value = z.value; after = z.after; split = z.split; is_before = z.is_before; spelled = s; is_after = z.is_after })
 
   pub value_spelled : (limit : ℕ) (text : Text) (t : Tree) → ValueBody u limit text t → IsValue t
   value_spelled limit text t z = place.value_spelled u false limit z.before z.value z.after t z.spelled

@@ -6,8 +6,10 @@ use Rattle.ron_spec_words.specs.Characters.{Text}
 use Rattle.ron_value_number.specs.declared.width.Width.TheVariants.{I8, I32, U8, U16}
 use Rattle.ron_value.specs.Tree.{Tree, items_from, pairs_from}
 use Rattle.ron_value.specs.Tree as tree
-use Rattle.ron_spec_grammar.specs.Data.{Data, bool_of, int_of, char_of, str_of, bytes_of, the_unit, the_none, some_of, unit_struct_of, list_of, tuple_of, tuple_struct_of, map_of, newtype_of, struct_of, value_of, datas, no_pairs, pair_and, no_fields, field_and}
-use Rattle.ron_spec_grammar.specs.Schema.{Shape, Variant, bool, int, char, str, bytes, unit, optional, unit_struct, seq, tuple, tuple_struct, map, newtype, struct, enum, any_value, only, field}
+use Rattle.ron_spec_grammar.specs.Data.{Data, bool_of, int_of, char_of, str_of, bytes_of, the_unit, the_none, some_of, unit_struct_of, list_of, tuple_of}
+use Rattle.ron_spec_grammar.specs.Data.{tuple_struct_of, map_of, newtype_of, struct_of, value_of, datas, no_pairs, pair_and, no_fields, field_and}
+use Rattle.ron_spec_grammar.specs.Schema.{Shape, Variant, bool, int, char, str, bytes, unit, optional, unit_struct, seq, tuple, tuple_struct, map, newtype}
+use Rattle.ron_spec_grammar.specs.Schema.{struct, enum, any_value, only, field}
 use Rattle.ron_spec_grammar.specs.Equal.{equal_data}
 use Rattle.ron_spec_grammar.specs.Values.Conversion.{into}
 
@@ -107,10 +109,12 @@ list_as_list = refl
 list_with_another_item : becomes (seq 1 ∷ int U8 ∷ []) (list (small 1 ∷ tree.boolean true ∷ [])) ≡ None
 list_with_another_item = refl
 
-list_as_tuple : becomes (tuple (1 ∷ 2 ∷ []) ∷ int U8 ∷ bool ∷ []) (list (small 1 ∷ tree.boolean true ∷ [])) ≡ Some (tuple_of (datas (int_of U8 (pos 1) ∷ bool_of true ∷ [])))
+list_as_tuple : becomes (tuple (1 ∷ 2 ∷ []) ∷ int U8 ∷ bool ∷ []) (list (small 1 ∷ tree.boolean true ∷ []))
+    ≡ Some (tuple_of (datas (int_of U8 (pos 1) ∷ bool_of true ∷ [])))
 list_as_tuple = refl
 
-list_as_tuple_struct : becomes (tuple_struct (codes "T") (1 ∷ 2 ∷ []) ∷ int U8 ∷ bool ∷ []) (list (small 1 ∷ tree.boolean true ∷ [])) ≡ Some (tuple_struct_of (codes "T") (datas (int_of U8 (pos 1) ∷ bool_of true ∷ [])))
+list_as_tuple_struct : becomes (tuple_struct (codes "T") (1 ∷ 2 ∷ []) ∷ int U8 ∷ bool ∷ []) (list (small 1 ∷ tree.boolean true ∷ []))
+    ≡ Some (tuple_struct_of (codes "T") (datas (int_of U8 (pos 1) ∷ bool_of true ∷ [])))
 list_as_tuple_struct = refl
 
 list_too_short : becomes (tuple (1 ∷ 1 ∷ []) ∷ int U8 ∷ []) (list (small 1 ∷ [])) ≡ None
@@ -136,7 +140,8 @@ content_as_newtype = refl
 
 -- ---- maps
 
-map_as_map : becomes (map 1 2 ∷ int U8 ∷ bool ∷ []) (tree.mapping (pairs_from ((small 1, tree.boolean true) ∷ []))) ≡ Some (map_of (pair_and (int_of U8 (pos 1)) (bool_of true) no_pairs))
+map_as_map : becomes (map 1 2 ∷ int U8 ∷ bool ∷ []) (tree.mapping (pairs_from ((small 1, tree.boolean true) ∷ [])))
+    ≡ Some (map_of (pair_and (int_of U8 (pos 1)) (bool_of true) no_pairs))
 map_as_map = refl
 
 -- keys of two widths are two keys, and one behind the conversion: it keeps the first place and takes the last value
@@ -210,7 +215,8 @@ list_as_struct : becomes point (list (small 1 ∷ small 2 ∷ [])) ≡ None
 list_as_struct = refl
 
 -- x, and whatever else
-skipping_struct : becomes (struct (codes "P") (record { fields = field (codes "x") 1 ∷ []; skips_unknown = true }) ∷ int U8 ∷ []) (tree.mapping (pairs_from ((x_key, small 1) ∷ (z_key, tree.boolean true) ∷ [])))
+skipping_struct : becomes (struct (codes "P") (record { fields = field (codes "x") 1 ∷ []; skips_unknown = true }) ∷ int U8 ∷ [])
+    (tree.mapping (pairs_from ((x_key, small 1) ∷ (z_key, tree.boolean true) ∷ [])))
     ≡ Some (struct_of (codes "P") (field_and (codes "x") (int_of U8 (pos 1)) no_fields))
 skipping_struct = rw (x_named, z_named) refl
 
@@ -225,7 +231,8 @@ left_named = chars-encodes (codes "left") refl
 
 -- x, which may be called left too, and y
 abbrev aliased : List (Tree × Tree) → Option Data
-aliased ps = becomes (struct (codes "P") (only (record (field (codes "x") 1) { aliases = codes "left" ∷ [] } ∷ field (codes "y") 1 ∷ [])) ∷ int U8 ∷ []) (tree.mapping (pairs_from ps))
+aliased ps = becomes (struct (codes "P") (only (record (field (codes "x") 1) { aliases = codes "left" ∷ [] } ∷ field (codes "y") 1 ∷ [])) ∷ int U8 ∷ [])
+    (tree.mapping (pairs_from ps))
 
 key_by_alias : aliased ((left_key, small 1) ∷ (y_key, small 2) ∷ []) ≡ Some of_x_and_y
 key_by_alias = rw (left_named, y_named) refl

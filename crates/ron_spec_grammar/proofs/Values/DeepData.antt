@@ -26,23 +26,29 @@ item_deep schema room k fields item (inl z) = z.3.no_deeper
 item_deep schema room k fields item (inr z) = z.1
 
 -- the item of a field's name is the field's
-item_known : (schema : List Shape) (room k : ℕ) (fields : List Field) (f : Field) (item : Item) → item.0 ≡ f.name → find (is_named f.name) fields ≡ Some f → list_all has_distinct_names schema ≡ true → Each (IsFound fields) fields → ItemOf schema room k fields item
+item_known : (schema : List Shape) (room k : ℕ) (fields : List Field) (f : Field) (item : Item) → item.0 ≡ f.name → find (is_named f.name) fields ≡ Some f
+    → list_all has_distinct_names schema ≡ true → Each (IsFound fields) fields → ItemOf schema room k fields item
     → (g : Field) × (find (is_named item.0) fields ≡ Some g) × OfShape schema g.shape item.1
-item_known schema room k fields f item named there formed found (inl z) = (z.0, ap (λ n. find (is_named n) fields) z.2 ∙ known_found fields z.0 found z.1, z.3.of_shape formed)
-item_known schema room k fields f item named there formed found (inr z) = absurd (let e : true ≡ false = sym (named_called f.name fields (found_any (is_named f.name) fields f there)) ∙ ap (λ n. list_any (is_called n) fields) (sym named) ∙ z.0 in cc)
+item_known schema room k fields f item named there formed found (inl z) =
+    (z.0, ap (λ n. find (is_named n) fields) z.2 ∙ known_found fields z.0 found z.1, z.3.of_shape formed)
+item_known schema room k fields f item named there formed found (inr z) = absurd (let e : true ≡ false =
+    sym (named_called f.name fields (found_any (is_named f.name) fields f there)) ∙ ap (λ n. list_any (is_called n) fields) (sym named) ∙ z.0 in cc)
 
 module _ (schema : List Shape) (room k : ℕ) (all : List Field) (xs : List Item) (items : Each (ItemOf schema room k all) xs) where
   abbrev ArrangedAs : List Field → Fields → Type 0
   ArrangedAs fields ds =
-      (list_all has_distinct_names schema ≡ true → Each (IsFound all) all → Each (IsFound all) fields → names_differ fields ≡ true → (in_order fields (names_of ds) ≡ true) × OfFields schema all ds)
+      (list_all has_distinct_names schema ≡ true → Each (IsFound all) all → Each (IsFound all) fields → names_differ fields ≡ true
+      → (in_order fields (names_of ds) ≡ true) × OfFields schema all ds)
       × (k ≤ room → k + fields_depth ds ≤ room)
 
   pub arranged_is : (fields : List Field) (ds : Fields) → arranged fields xs ≡ Some ds → ArrangedAs fields ds
   unfolding IsFound
-  arranged_is [] ds e = let same : no_fields ≡ ds = cc in rw (← same) (λ _ _ _ _. (refl, tt), λ le. (let none : k + 0 ≡ k = omega arith in omega (arith, le, none)))
+  arranged_is [] ds e = let same : no_fields ≡ ds = cc in
+      rw (← same) (λ _ _ _ _. (refl, tt), λ le. (let none : k + 0 ≡ k = omega arith in omega (arith, le, none)))
   arranged_is (f ∷ fields) ds e = go (with_item_is f.may_be_missing (find (is_of f.name) xs) (arranged fields xs) ds e) (λ rest. arranged_is fields rest)
     where
-      go : FromItem (find (is_of f.name) xs) (arranged fields xs) ds ⊎ ((f.may_be_missing ≡ true) × (arranged fields xs ≡ Some ds)) → ((rest : Fields) → arranged fields xs ≡ Some rest → ArrangedAs fields rest) → ArrangedAs (f ∷ fields) ds
+      go : FromItem (find (is_of f.name) xs) (arranged fields xs) ds ⊎ ((f.may_be_missing ≡ true) × (arranged fields xs ≡ Some ds))
+          → ((rest : Fields) → arranged fields xs ≡ Some rest → ArrangedAs fields rest) → ArrangedAs (f ∷ fields) ds
       go (inl z) ih =
           let item = z.0 in
           let g = find_some (ItemOf schema room k all) (is_of f.name) xs item z.2 items in
@@ -56,5 +62,8 @@ module _ (schema : List Shape) (room k : ℕ) (all : List Field) (xs : List Item
             λ le. (let w = rest.1 le in omega (arith, w, low)),
           )
       go (inr z) ih =
-          let rest = ih ds z.1 in
-          (λ formed whole found differ. (let d = names_parts f fields differ in let more = rest.0 formed whole found.1 d.1 in (missing_first f fields (names_of ds) z.0 d.0 more.0, more.1)), rest.1)
+          let rest = ih ds z.1 in (
+            λ formed whole found differ. (let d = names_parts f fields differ in let more = rest.0 formed whole found.1 d.1 in
+                (missing_first f fields (names_of ds) z.0 d.0 more.0, more.1)),
+            rest.1,
+          )

@@ -24,15 +24,20 @@ pub record IsValueIn (room k : ℕ) (t : Tree) : Type 0 where
 pub number_in : (room : ℕ) (n : Numeral) (t : Tree) → number_tree n ≡ Some t → IsValueIn room 0 t
 number_in room n t e = go (written_width (option_map suffix_width n.suffix) n.minus (numeral_value n)) refl e
   where
-    go : (o : Option Width) → written_width (option_map suffix_width n.suffix) n.minus (numeral_value n) ≡ o → option_map (λ w. tree.number w (numeral_value n)) o ≡ Some t → IsValueIn room 0 t
+    go : (o : Option Width) → written_width (option_map suffix_width n.suffix) n.minus (numeral_value n) ≡ o
+        → option_map (λ w. tree.number w (numeral_value n)) o ≡ Some t → IsValueIn room 0 t
     go None h k = absurd (cc)
     go (Some w) h k =
         let same : tree.number w (numeral_value n) ≡ t = cc in
-        rw (← same) (record { value = record { ordered = tt; in_width = written_fits (option_map suffix_width n.suffix) n.minus (numeral_value n) w h }; no_deeper = omega arith })
+        rw (← same) (record {
+          value = record { ordered = tt; in_width = written_fits (option_map suffix_width n.suffix) n.minus (numeral_value n) w h };
+          no_deeper = omega arith;
+        })
 
 -- ---- lists
 
-items_in : (room : ℕ) (ts : List Tree) → Each (IsValueIn room 2) ts → AreItemsOrdered (items_from ts) × HaveNumbersInWidth (items_from ts) × (1 ≤ room → 1 + items_depth (lift_items (items_from ts)) ≤ room)
+items_in : (room : ℕ) (ts : List Tree) → Each (IsValueIn room 2) ts
+    → AreItemsOrdered (items_from ts) × HaveNumbersInWidth (items_from ts) × (1 ≤ room → 1 + items_depth (lift_items (items_from ts)) ≤ room)
 items_in room [] h = (tt, tt, λ le. le)
 items_in room (t ∷ ts) h =
     let k = items_in room ts h.1 in
@@ -44,7 +49,8 @@ list_in room ts h le = let k = items_in room ts h in let w = k.2 le in record { 
 
 -- ---- maps
 
-pairs_in : (room : ℕ) (es : List Entry) → Each (Both (IsValueIn room 2)) es → ArePairsOrdered (pairs_from es) × PairsInWidth (pairs_from es) × (1 ≤ room → 1 + pairs_depth (lift_pairs (pairs_from es)) ≤ room)
+pairs_in : (room : ℕ) (es : List Entry) → Each (Both (IsValueIn room 2)) es
+    → ArePairsOrdered (pairs_from es) × PairsInWidth (pairs_from es) × (1 ≤ room → 1 + pairs_depth (lift_pairs (pairs_from es)) ≤ room)
 pairs_in room [] h = (tt, tt, λ le. le)
 pairs_in room (e ∷ es) h =
     let k = pairs_in room es h.1 in

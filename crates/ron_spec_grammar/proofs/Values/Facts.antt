@@ -33,7 +33,8 @@ written_fits (Some v) minus z w e = go (fits v z) refl e
 pub number_in : (room : ℕ) (n : Numeral) (t : Tree) → number_tree n ≡ Some t → IsValueIn room 0 t
 number_in room n t e = go (written_width (option_map suffix_width n.suffix) n.minus (numeral_value n)) refl e
   where
-    go : (o : Option Width) → written_width (option_map suffix_width n.suffix) n.minus (numeral_value n) ≡ o → option_map (λ w. tree.number w (numeral_value n)) o ≡ Some t → IsValueIn room 0 t
+    go : (o : Option Width) → written_width (option_map suffix_width n.suffix) n.minus (numeral_value n) ≡ o
+        → option_map (λ w. tree.number w (numeral_value n)) o ≡ Some t → IsValueIn room 0 t
     go None h k = absurd (cc)
     go (Some w) h k =
         let same : tree.number w (numeral_value n) ≡ t = cc in
@@ -87,18 +88,21 @@ module _ (room : ℕ) where
 
   start_in : (o : Option Tree) (t : Tree) → In o → from_start o ≡ Some t → IsValueIn room 0 t
   start_in None t h e = absurd (cc)
-  start_in (Some u) t h e = let same : mapped ((start_key, u) ∷ []) ≡ t = cc in rw (← same) (map_in room ((start_key, u) ∷ []) (bound_in start_key u (text_is _) (h u refl), tt))
+  start_in (Some u) t h e = let same : mapped ((start_key, u) ∷ []) ≡ t = cc in
+      rw (← same) (map_in room ((start_key, u) ∷ []) (bound_in start_key u (text_is _) (h u refl), tt))
 
   end_in : (o : Option Tree) (t : Tree) → In o → to_end o ≡ Some t → IsValueIn room 0 t
   end_in None t h e = absurd (cc)
-  end_in (Some u) t h e = let same : mapped ((end_key, u) ∷ []) ≡ t = cc in rw (← same) (map_in room ((end_key, u) ∷ []) (bound_in end_key u (text_is _) (h u refl), tt))
+  end_in (Some u) t h e = let same : mapped ((end_key, u) ∷ []) ≡ t = cc in
+      rw (← same) (map_in room ((end_key, u) ∷ []) (bound_in end_key u (text_is _) (h u refl), tt))
 
   both_in : (o p : Option Tree) (t : Tree) → In o → In p → from_to o p ≡ Some t → IsValueIn room 0 t
   both_in None p t h k e = absurd (cc)
   both_in (Some u) None t h k e = absurd (cc)
   both_in (Some u) (Some v) t h k e =
       let same : mapped ((start_key, u) ∷ (end_key, v) ∷ []) ≡ t = cc in
-      rw (← same) (map_in room ((start_key, u) ∷ (end_key, v) ∷ []) (bound_in start_key u (text_is _) (h u refl), (bound_in end_key v (text_is _) (k v refl), tt)))
+      rw (← same)
+      (map_in room ((start_key, u) ∷ (end_key, v) ∷ []) (bound_in start_key u (text_is _) (h u refl), (bound_in end_key v (text_is _) (k v refl), tt)))
 
   pub span_in : (s : Interval) (t : Tree) → interval_value s ≡ Some t → IsValueIn room 0 t
   span_in (one n) t e = number_in room n t e

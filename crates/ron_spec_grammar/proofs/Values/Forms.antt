@@ -38,7 +38,9 @@ char_form = first_char (Is a_character) (λ s. refl)
 
 pub string_form : First (Is a_string) String
 unfolding form
-string_form = record { holds = λ t next a z. rw ((first_string (λ s. is_at 39 s ≡ false) (λ s. refl) (λ s. refl)).holds t next a z, string_opens.holds t next a z) refl }
+string_form = record {
+  holds = λ t next a z. rw ((first_string (λ s. is_at 39 s ≡ false) (λ s. refl) (λ s. refl)).holds t next a z, string_opens.holds t next a z) refl;
+}
 
 pub byte_string_form : First (Is a_byte_string) ByteString
 unfolding form
@@ -55,11 +57,22 @@ marks_form = (λ s. refl, λ s. refl, λ s. refl)
 pub number_form : First (Is a_number) NumberOrRange
 unfolding form
 number_form = first_interval (Is a_number) (λ s. refl) (first_untyped_integer (Is a_number) (λ s. refl) (λ s. refl) (λ s. refl)
-    (λ c s e. rw (apart is_ascii_digit 39 c refl e, apart is_ascii_digit 34 c refl e, apart is_ascii_digit 114 c refl e, apart is_ascii_digit 98 c refl e, apart is_ascii_digit 91 c refl e, apart is_ascii_digit 123 c refl e, apart is_ascii_digit 40 c refl e, apart is_ascii_digit 46 c refl e, e) refl))
+    (λ c s e. rw (
+      apart is_ascii_digit 39 c refl e,
+      apart is_ascii_digit 34 c refl e,
+      apart is_ascii_digit 114 c refl e,
+      apart is_ascii_digit 98 c refl e,
+      apart is_ascii_digit 91 c refl e,
+      apart is_ascii_digit 123 c refl e,
+      apart is_ascii_digit 40 c refl e,
+      apart is_ascii_digit 46 c refl e,
+      e,
+    ) refl))
 
 -- the four words of values that are no floats
 abbrev pub IsValueWord : Text → Type 0
-IsValueWord w = ((s : Text) → Is a_word (w ++ s)) × ((s : Text) → opens_literal (w ++ s) ≡ false) × ((s : Text) → begins_with (codes "r#") (w ++ s) ≡ false) × BeginsAndGoesOn starts_name continues_name w
+IsValueWord w = ((s : Text) → Is a_word (w ++ s)) × ((s : Text) → opens_literal (w ++ s) ≡ false) × ((s : Text) → begins_with (codes "r#") (w ++ s) ≡ false)
+    × BeginsAndGoesOn starts_name continues_name w
 
 pub value_words : IsValueWord (codes "true") × IsValueWord (codes "false") × IsValueWord (codes "None") × IsValueWord (codes "Some")
 unfolding form unicode_ident
@@ -79,14 +92,16 @@ NoMark s = (is_at 39 s ≡ false) × (is_at 91 s ≡ false) × (is_at 123 s ≡ 
 
 name_no_mark : First NoMark UntypedName
 unfolding unicode_ident
-name_no_mark = first_untyped_name NoMark (λ s. (refl, refl, refl, refl)) (λ c s e. (apart starts_name 39 c refl e, apart starts_name 91 c refl e, apart starts_name 123 c refl e, apart starts_name 40 c refl e))
+name_no_mark = first_untyped_name NoMark (λ s. (refl, refl, refl, refl))
+    (λ c s e. (apart starts_name 39 c refl e, apart starts_name 91 c refl e, apart starts_name 123 c refl e, apart starts_name 40 c refl e))
 
 pub name_form : First (Is a_word) UntypedName
 unfolding form
 name_form = record {
   holds = λ t next n z.
       let k = name_no_mark.holds t next n z in
-      let o = (first_or {P = λ s. (opens_string s ≡ false) × (opens_byte_string s ≡ false)} raw_name_no_string (first_means identifier_no_string)).holds t next n z in
+      let o =
+      (first_or {P = λ s. (opens_string s ≡ false) × (opens_byte_string s ≡ false)} raw_name_no_string (first_means identifier_no_string)).holds t next n z in
       rw (k.0, o.0, o.1, k.1, k.2, k.3, untyped_name_no_interval.holds t next n z) refl;
 }
 
@@ -95,8 +110,10 @@ pub required_name_form : First (Is a_word) Name
 unfolding form unicode_ident
 required_name_form = record {
   holds = λ t next n z.
-      let k = (first_name NoMark (λ s. (refl, refl, refl, refl)) (λ c s e. (apart starts_name 39 c refl e, apart starts_name 91 c refl e, apart starts_name 123 c refl e, apart starts_name 40 c refl e))).holds t next n z in
-      let o = (first_or {P = λ s. (opens_string s ≡ false) × (opens_byte_string s ≡ false)} {M = PlainName} raw_name_no_string (record { holds = λ t next n z. identifier_no_string.holds t next n (z.0, z.1.spelled) })).holds t next n z in
+      let k = (first_name NoMark (λ s. (refl, refl, refl, refl)) (λ c s e.
+      (apart starts_name 39 c refl e, apart starts_name 91 c refl e, apart starts_name 123 c refl e, apart starts_name 40 c refl e))).holds t next n z in
+      let o = (first_or {P = λ s. (opens_string s ≡ false) × (opens_byte_string s ≡ false)} {M = PlainName} raw_name_no_string
+      (record { holds = λ t next n z. identifier_no_string.holds t next n (z.0, z.1.spelled) })).holds t next n z in
       rw (k.0, o.0, o.1, k.1, k.2, k.3, name_no_interval.holds t next n z) refl;
 }
 
@@ -110,7 +127,12 @@ unfolding unicode_ident
 no_names = (refl, refl, refl, refl)
 
 pub marks_unnamed : ((s : Text) → Unnamed (91 ∷ s)) × ((s : Text) → Unnamed (123 ∷ s)) × ((s : Text) → Unnamed (40 ∷ s)) × ((s : Text) → Unnamed (41 ∷ s))
-marks_unnamed = (λ s. unnamed_mark 91 s no_names.0 refl, λ s. unnamed_mark 123 s no_names.1 refl, λ s. unnamed_mark 40 s no_names.2 refl, λ s. unnamed_mark 41 s no_names.3 refl)
+marks_unnamed = (
+  λ s. unnamed_mark 91 s no_names.0 refl,
+  λ s. unnamed_mark 123 s no_names.1 refl,
+  λ s. unnamed_mark 40 s no_names.2 refl,
+  λ s. unnamed_mark 41 s no_names.3 refl,
+)
 
 pub close_unnamed : (s : Text) → is_at 41 s ≡ true → opens_field s ≡ false
 unfolding opens_field
@@ -118,17 +140,20 @@ close_unnamed [] e = absurd (cc)
 close_unnamed (c ∷ s) e = let same : c ≡ 41 = eqb-true c 41 e in rw same (ap (leads_to 58) (marks_unnamed.3 s).no_name)
 
 -- where a plain identifier stands, a name is read if what follows it may follow a name that is required
-name_at : (s : Text) → begins_with (codes "r#") s ≡ false → not (opens_literal s) ≡ true → name s ≡ unless_before is_name_mark (run starts_name continues_name s)
+name_at : (s : Text) → begins_with (codes "r#") s ≡ false → not (opens_literal s) ≡ true
+    → name s ≡ unless_before is_name_mark (run starts_name continues_name s)
 unfolding name
 name_at s e f =
-    ap (λ b. cond b (behind 114 (behind 35 (run in_raw_name in_raw_name)) s) (pick (λ u. not (opens_literal u)) (not_before is_name_mark (run starts_name continues_name)) (fail bad) s)) e
+    ap (λ b. cond b (behind 114 (behind 35 (run in_raw_name in_raw_name)) s)
+    (pick (λ u. not (opens_literal u)) (not_before is_name_mark (run starts_name continues_name)) (fail bad) s)) e
     ∙ ap (λ b. cond b (not_before is_name_mark (run starts_name continues_name) s) (failed bad)) f
 
 -- so no field begins before what is no colon
 identifier_field : (t next n : Text) → PlainIdentifier t next n → begins_with (codes "r#") (t ++ next) ≡ false → NoColon next → opens_field (t ++ next) ≡ false
 unfolding opens_field
 identifier_field t next n z e f =
-    ap (leads_to 58) (name_at (t ++ next) e z.0 ∙ ap (unless_before is_name_mark) ((word_run starts_name continues_name).complete t next n z.1).answer) ∙ go (begins is_name_mark next)
+    ap (leads_to 58) (name_at (t ++ next) e z.0 ∙ ap (unless_before is_name_mark) ((word_run starts_name continues_name).complete t next n z.1).answer)
+    ∙ go (begins is_name_mark next)
   where
     go : (b : Bool) → leads_to 58 (cond b (failed bad) (got n next)) ≡ false
     go true = refl
@@ -143,11 +168,15 @@ pub name_unnamed : Starts opens_field false UntypedName NoColon
 name_unnamed = record { at = λ t next n z f _. name_field t next n z f }
 
 pub fixed_unnamed : {A : Type 0} (w : Text) (a : A) → IsValueWord w → Starts opens_field false (FixedWord w a) NoColon
-fixed_unnamed w a h = record { at = λ t next b z f _. rw z.same (identifier_field w next w (ap not (h.1 next), record { same = refl; every = h.3; longest = z.ends }) (h.2 next) f) }
+fixed_unnamed w a h = record {
+  at = λ t next b z f _. rw z.same (identifier_field w next w (ap not (h.1 next), record { same = refl; every = h.3; longest = z.ends }) (h.2 next) f);
+}
 
 -- nor before `(`
-pub bracket_unnamed : {A B : Type 0} {L : Lang A} {M : A → Text → Lang B} {F : Text → Type 0} → Starts opens_field false L NoColon → ((a : A) (gap : Text) → First (λ s. is_at 40 s ≡ true) (M a gap)) → Starts opens_field false (Then L M) F
-bracket_unnamed h k = starts_then h (λ a gap right next x g z _. gap_no_colon gap (right ++ next) g (is_at_other 40 58 (right ++ next) ((k a gap).holds right next x z) refl))
+pub bracket_unnamed : {A B : Type 0} {L : Lang A} {M : A → Text → Lang B} {F : Text → Type 0} → Starts opens_field false L NoColon
+    → ((a : A) (gap : Text) → First (λ s. is_at 40 s ≡ true) (M a gap)) → Starts opens_field false (Then L M) F
+bracket_unnamed h k =
+    starts_then h (λ a gap right next x g z _. gap_no_colon gap (right ++ next) g (is_at_other 40 58 (right ++ next) ((k a gap).holds right next x z) refl))
 
 -- ---- words apart
 

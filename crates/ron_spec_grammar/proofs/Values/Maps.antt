@@ -48,7 +48,8 @@ ascends-nil = tt
 
 -- ---- pairs whose keys ascend stay
 
-below_middle : (k : Tree) (es : List Entry) (e : Entry) (more : List Entry) → AllByRecursion (λ y. tree_cmp k y ≡ Less) (keys_in (pairs_from (es ++ e ∷ more))) → tree_cmp k e.0 ≡ Less
+below_middle : (k : Tree) (es : List Entry) (e : Entry) (more : List Entry) → AllByRecursion (λ y. tree_cmp k y ≡ Less) (keys_in (pairs_from (es ++ e ∷ more)))
+    → tree_cmp k e.0 ≡ Less
 below_middle k [] e more h = h.0
 below_middle k (x ∷ es) e more h = below_middle k es e more h.1
 

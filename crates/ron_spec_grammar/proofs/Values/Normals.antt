@@ -9,7 +9,8 @@ use Rattle.ron_value.specs.Tree.{Tree, pairs_from}
 use Rattle.ron_value.specs.Tree as tree
 use Rattle.ron_value.specs.Ordered.{AreItemsOrdered, ArePairsOrdered}
 use Rattle.ron_spec_grammar.specs.Depth.{least_depth, items_depth, pairs_depth}
-use Rattle.ron_spec_grammar.specs.Values.Trees.{IsValue, HaveNumbersInWidth, PairsInWidth, in_smallest_width, lift, lift_items, lift_pairs, normal, normal_items, normal_pairs, Entry, put_in, mapped}
+use Rattle.ron_spec_grammar.specs.Values.Trees.{IsValue, HaveNumbersInWidth, PairsInWidth, in_smallest_width, lift, lift_items, lift_pairs, normal}
+use Rattle.ron_spec_grammar.specs.Values.Trees.{normal_items, normal_pairs, Entry, put_in, mapped}
 use Rattle.ron_spec_grammar.proofs.Values.DeepValues.{IsValueIn, map_in, some_in}
 use Rattle.ron_spec_grammar.proofs.Values.Facts.{written_fits}
 use Rattle.ron_spec_grammar.proofs.Values.Maps.{Both, each-put_in, ascends-put_in, ascends-nil, put_ascending}
@@ -30,10 +31,12 @@ mutual
   pub normal_in : (suffixes : Bool) (t : Tree) → IsValue t → IsValueIn (least_depth (lift t)) 0 (normal suffixes t)
   normal_in suffixes (tree.boolean b) h = record { value = h; no_deeper = omega arith }
   normal_in suffixes (tree.character c) h = record { value = h; no_deeper = omega arith }
-  normal_in suffixes (tree.mapping ps) h = map_in (least_depth (lift (tree.mapping ps))) (normal_pairs suffixes ps) (pairs_in suffixes (least_depth (lift (tree.mapping ps))) ps h.ordered.1 h.in_width (omega arith)) (omega arith)
+  normal_in suffixes (tree.mapping ps) h = map_in (least_depth (lift (tree.mapping ps))) (normal_pairs suffixes ps)
+      (pairs_in suffixes (least_depth (lift (tree.mapping ps))) ps h.ordered.1 h.in_width (omega arith)) (omega arith)
   normal_in suffixes (tree.number w n) h = number_in suffixes w n h.in_width
   normal_in suffixes tree.none h = record { value = h; no_deeper = omega arith }
-  normal_in suffixes (tree.some t) h = some_in (least_depth (lift (tree.some t))) (normal suffixes t) (deeper (least_depth (lift t)) (least_depth (lift (tree.some t))) 1 (normal suffixes t) (normal_in suffixes t (record { ordered = h.ordered; in_width = h.in_width })) (omega arith))
+  normal_in suffixes (tree.some t) h = some_in (least_depth (lift (tree.some t))) (normal suffixes t) (deeper (least_depth (lift t))
+      (least_depth (lift (tree.some t))) 1 (normal suffixes t) (normal_in suffixes t (record { ordered = h.ordered; in_width = h.in_width })) (omega arith))
   normal_in suffixes (tree.text bs) h = record { value = h; no_deeper = omega arith }
   normal_in suffixes (tree.bytes bs) h = record { value = h; no_deeper = omega arith }
   normal_in suffixes (tree.sequence ts) h =
@@ -42,7 +45,8 @@ mutual
       record { value = record { ordered = k.0; in_width = k.1 }; no_deeper = omega (arith, low) }
   normal_in suffixes tree.unit h = record { value = h; no_deeper = omega arith }
 
-  items_in : (suffixes : Bool) (ts : tree.Items) → AreItemsOrdered ts → HaveNumbersInWidth ts → AreItemsOrdered (normal_items suffixes ts) × HaveNumbersInWidth (normal_items suffixes ts) × (items_depth (lift_items (normal_items suffixes ts)) ≤ items_depth (lift_items ts))
+  items_in : (suffixes : Bool) (ts : tree.Items) → AreItemsOrdered ts → HaveNumbersInWidth ts → AreItemsOrdered (normal_items suffixes ts)
+      × HaveNumbersInWidth (normal_items suffixes ts) × (items_depth (lift_items (normal_items suffixes ts)) ≤ items_depth (lift_items ts))
   items_in suffixes tree.no_items o w = (tt, tt, omega arith)
   items_in suffixes (tree.item_and t ts) o w =
       let first = normal_in suffixes t (record { ordered = o.0; in_width = w.0 }) in
@@ -51,10 +55,16 @@ mutual
       let low' = rest.2 in
       ((first.value.ordered, rest.0), (first.value.in_width, rest.1), omega (arith, low, low'))
 
-  pairs_in : (suffixes : Bool) (room : ℕ) (ps : tree.Pairs) → ArePairsOrdered ps → PairsInWidth ps → 1 + pairs_depth (lift_pairs ps) ≤ room → Each (Both (IsValueIn room 2)) (normal_pairs suffixes ps)
+  pairs_in : (suffixes : Bool) (room : ℕ) (ps : tree.Pairs) → ArePairsOrdered ps → PairsInWidth ps → 1 + pairs_depth (lift_pairs ps) ≤ room
+      → Each (Both (IsValueIn room 2)) (normal_pairs suffixes ps)
   pairs_in suffixes room tree.no_pairs o w le = tt
-  pairs_in suffixes room (tree.pair_and k t ps) o w le =
-      ((deeper (least_depth (lift k)) room 2 (normal suffixes k) (normal_in suffixes k (record { ordered = o.0; in_width = w.0 })) (omega (arith, le)), deeper (least_depth (lift t)) room 2 (normal suffixes t) (normal_in suffixes t (record { ordered = o.1; in_width = w.1 })) (omega (arith, le))), pairs_in suffixes room ps o.2 w.2 (omega (arith, le)))
+  pairs_in suffixes room (tree.pair_and k t ps) o w le = (
+    (
+      deeper (least_depth (lift k)) room 2 (normal suffixes k) (normal_in suffixes k (record { ordered = o.0; in_width = w.0 })) (omega (arith, le)),
+      deeper (least_depth (lift t)) room 2 (normal suffixes t) (normal_in suffixes t (record { ordered = o.1; in_width = w.1 })) (omega (arith, le)),
+    ),
+    pairs_in suffixes room ps o.2 w.2 (omega (arith, le)),
+  )
 
 -- the clause
 pub normal_value : (suffixes : Bool) (t : Tree) → IsValue t → IsValue (normal suffixes t) × (least_depth (lift (normal suffixes t)) ≤ least_depth (lift t))
@@ -82,7 +92,8 @@ pairs_stay suffixes (e ∷ es) h = ap₂ (λ p l. p ∷ l) (ap₂ (λ a b. (a, b
 mapped_normal : (suffixes : Bool) (ps : List Entry) → Each (Both (Normal suffixes)) ps → Normal suffixes (mapped ps)
 mapped_normal suffixes ps h =
     let es = put_in [] ps in
-    ap mapped (pairs_stay suffixes es (each-put_in (Normal suffixes) [] ps tt h)) ∙ ap (λ l. tree.mapping (pairs_from l)) (put_ascending es (ascends-put_in [] ps ascends-nil))
+    ap mapped (pairs_stay suffixes es (each-put_in (Normal suffixes) [] ps tt h))
+    ∙ ap (λ l. tree.mapping (pairs_from l)) (put_ascending es (ascends-put_in [] ps ascends-nil))
 
 mutual
   pub normal_twice : (suffixes : Bool) (t : Tree) → Normal suffixes (normal suffixes t)

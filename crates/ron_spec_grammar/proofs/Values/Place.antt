@@ -21,7 +21,8 @@ module _ (u : Bool) where
   fit : (m n : ℕ) → m ≤ n → ValueFit 6 n 0 (read_any u m) (read_any u n) (AnySpells u n)
   fit m n le = any_within (omega arith) u m n le
 
-  part : (bare : Bool) (room : ℕ) (before : Text) → Part room 6 bare (IsValueIn room 0) (read_any u room bare before) (read_any u room bare before) (AnySpells u room bare before) (After bare) (bare_levels bare + 0)
+  part : (bare : Bool) (room : ℕ) (before : Text) → Part room 6 bare (IsValueIn room 0) (read_any u room bare before) (read_any u room bare before)
+      (AnySpells u room bare before) (After bare) (bare_levels bare + 0)
   part bare room before = (fit room room (omega arith)).part bare before
 
   pub sound : (room : ℕ) (before s rest : Text) (t : Tree) → read_any u room false before s ≡ got t rest → Takes (AnySpells u room false before) s t rest
@@ -30,7 +31,8 @@ module _ (u : Bool) where
   pub bare_sound : (room : ℕ) (before s rest : Text) (t : Tree) → read_any u room true before s ≡ got t rest → Takes (AnySpells u room true before) s t rest
   bare_sound room before s rest t e = (part true room before).exact.sound s t rest e
 
-  pub bare_complete : (room : ℕ) (before s next : Text) (t : Tree) → AnySpells u room true before s next t → Before right_parenthesis next → skip (s ++ next) ≡ s ++ next → read_any u room true before (s ++ next) ≡ got t next
+  pub bare_complete : (room : ℕ) (before s next : Text) (t : Tree) → AnySpells u room true before s next t → Before right_parenthesis next
+      → skip (s ++ next) ≡ s ++ next → read_any u room true before (s ++ next) ≡ got t next
   bare_complete room before s next t z f n = ((part true room before).exact.complete s next t z f n).answer
 
   -- a value begins with no gap
@@ -47,7 +49,8 @@ module _ (u : Bool) where
   pub walk : (room k : ℕ) (before s next : Text) (t : Tree) → AnySpells u room false before s next t → FollowsValue next → Walk false k (s ++ next) k next
   walk room k before s next t z f = (part false room before).passes.over k s next t z f (solid room before s next t z)
 
-  pub bare_walk : (room k : ℕ) (before s next : Text) (t : Tree) → AnySpells u room true before s next t → Before right_parenthesis next → skip (s ++ next) ≡ s ++ next → Walk true k (s ++ next) k next
+  pub bare_walk : (room k : ℕ) (before s next : Text) (t : Tree) → AnySpells u room true before s next t → Before right_parenthesis next
+      → skip (s ++ next) ≡ s ++ next → Walk true k (s ++ next) k next
   bare_walk room k before s next t z f n = (part true room before).passes.over k s next t z f n
 
   pub roomy : (bare : Bool) (room : ℕ) (before s : Text) → enough_for_value bare (length s) ≤ room → read_any u room bare before s ≡ failed deep → ⊥
@@ -64,17 +67,23 @@ module _ (u : Bool) where
     solid = λ room s next t z. solid room before s next t z;
   }
 
-  pub complete : (room : ℕ) (before s next : Text) (t : Tree) → AnySpells u room false before s next t → FollowsValue next → read_any u room false before (s ++ next) ≡ got t next
+  pub complete : (room : ℕ) (before s next : Text) (t : Tree) → AnySpells u room false before s next t → FollowsValue next
+      → read_any u room false before (s ++ next) ≡ got t next
   complete room before = place_complete (levels before) room
 
-  pub monotone : (m n : ℕ) (before s next : Text) (t : Tree) → m ≤ n → AnySpells u m false before s next t → FollowsValue next → AnySpells u n false before s next t
+  pub monotone : (m n : ℕ) (before s next : Text) (t : Tree) → m ≤ n → AnySpells u m false before s next t → FollowsValue next
+      → AnySpells u n false before s next t
   monotone m n before = place_monotone (levels before) m n
 
-  pub unique : (m n : ℕ) (before s next v other : Text) (t w : Tree) → s ++ next ≡ v ++ other → AnySpells u m false before s next t → FollowsValue next → AnySpells u n false before v other w → FollowsValue other → (s ≡ v) × (t ≡ w)
+  pub unique : (m n : ℕ) (before s next v other : Text) (t w : Tree) → s ++ next ≡ v ++ other → AnySpells u m false before s next t → FollowsValue next
+      → AnySpells u n false before v other w → FollowsValue other → (s ≡ v) × (t ≡ w)
   unique m n before = place_unique (levels before) m n
 
-  pub too_deep : (room n : ℕ) (before s next : Text) (t : Tree) → AnySpells u n false before s next t → FollowsValue next → (AnySpells u room false before s next t → ⊥) → read_any u room false before (s ++ next) ≡ failed deep
+  pub too_deep : (room n : ℕ) (before s next : Text) (t : Tree) → AnySpells u n false before s next t → FollowsValue next
+      → (AnySpells u room false before s next t → ⊥) → read_any u room false before (s ++ next) ≡ failed deep
   too_deep room n before = place_deep (levels before) room n
 
-  pub bounded : (n : ℕ) (before s next : Text) (t : Tree) → AnySpells u n false before s next t → FollowsValue next → AnySpells u (enough_for_value false (length (s ++ next))) false before s next t
-  bounded n before s next t = place_bounded (levels before) (enough_for_value false (length (s ++ next))) n s next t (roomy false (enough_for_value false (length (s ++ next))) before (s ++ next) (omega arith))
+  pub bounded : (n : ℕ) (before s next : Text) (t : Tree) → AnySpells u n false before s next t → FollowsValue next
+      → AnySpells u (enough_for_value false (length (s ++ next))) false before s next t
+  bounded n before s next t = place_bounded (levels before) (enough_for_value false (length (s ++ next))) n s next t
+      (roomy false (enough_for_value false (length (s ++ next))) before (s ++ next) (omega arith))

@@ -22,7 +22,10 @@ pub returns-clause-bounded : goal.returns-clause-bounded
 returns-clause-bounded c at_start x schema root n text d well = bounded at_start x schema root (formed_parts schema root well).0 n text d
 
 pub returns-clause-depth : goal.returns-clause-depth
-returns-clause-depth c x schema root limit text d well = (λ z. ((limit, z), depth_within x schema root text d limit z), λ z. within_depth x schema root text d (formed_parts schema root well).0 z.0.0 limit z.0.1 z.1)
+returns-clause-depth c x schema root limit text d well = (
+  λ z. ((limit, z), depth_within x schema root text d limit z),
+  λ z. within_depth x schema root text d (formed_parts schema root well).0 z.0.0 limit z.0.1 z.1,
+)
 
 pub returns-clause-of_schema : goal.returns-clause-of_schema
 returns-clause-of_schema c at_start x schema root limit text d h z = of_schema at_start x schema root root limit z.before z.value z.after d h z.spelled

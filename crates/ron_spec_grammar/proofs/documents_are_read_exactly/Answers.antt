@@ -32,7 +32,11 @@ pub returns-clause-bounded : goal.returns-clause-bounded
 returns-clause-bounded c x schema root n text d well = bounded x schema root (formed_parts schema root well).0 n text d
 
 pub returns-clause-depth : goal.returns-clause-depth
-returns-clause-depth c x schema root limit text d well = (λ z. ((limit, z), document_within x schema root text d limit z), λ z. within_document x schema root text d (formed_parts schema root well).0 z.0.0 limit z.0.1 z.1)
+returns-clause-depth c x schema root limit text d well = (
+  λ z. ((limit, z), document_within x schema root text d limit z),
+  λ z. within_document x schema root text d (formed_parts schema root well).0 z.0.0 limit z.0.1 z.1,
+)
 
 pub returns-clause-of_schema : goal.returns-clause-of_schema
-returns-clause-of_schema c x schema root limit text d h z = of_schema (is_ended z.head) (in_force x z.announced) schema root root limit z.is_body.before z.is_body.value z.is_body.after d h z.is_body.spelled
+returns-clause-of_schema c x schema root limit text d h z =
+    of_schema (is_ended z.head) (in_force x z.announced) schema root root limit z.is_body.before z.is_body.value z.is_body.after d h z.is_body.spelled

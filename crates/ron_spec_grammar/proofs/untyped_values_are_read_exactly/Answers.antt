@@ -1,4 +1,5 @@
-use Rattle.ron_spec_grammar.proofs.Values.Place.{sound, complete, unique, monotone, too_deep, bounded, roomy, value_spelled, walk, bare_walk, bare_sound, bare_complete}
+use Rattle.ron_spec_grammar.proofs.Values.Place.{sound, complete, unique, monotone, too_deep, bounded, roomy, value_spelled, walk, bare_walk, bare_sound}
+use Rattle.ron_spec_grammar.proofs.Values.Place.{bare_complete}
 use Rattle.ron_spec_grammar.proofs.untyped_values_are_read_exactly.Goals as goal
 
 pub returns-clause-sound : goal.returns-clause-sound

@@ -45,13 +45,16 @@ struct_variant_from enum_name v fields xs = option_map (struct_variant_of enum_n
 
 -- ---- the text
 
--- What stands behind a variant's name: the content of a newtype variant, the items of a tuple variant, or the fields of a struct variant, between `(` and `)`. The enum takes one level, and in it the group one and each item one more; a newtype variant's content takes one.
+-- What stands behind a variant's name: the content of a newtype variant, the items of a tuple variant, or the fields of a struct variant, between `(` and `)`.
+-- The enum takes one level, and in it the group one and each item one more; a newtype variant's content takes one.
 abbrev pub VariantText : Extensions → Text → Text → ℕ → (ℕ → Langs) → Option VariantShape → Lang Data
 VariantText x enum_name v room sub None = Nothing
 VariantText x enum_name v room sub (Some unit_variant) = Nothing
-VariantText x enum_name v room sub (Some (newtype_variant j)) = Means (Group left_parenthesis right_parenthesis (Content x.unwrap_variant_newtypes (sub 1) j)) (newtype_variant_data enum_name v)
+VariantText x enum_name v room sub (Some (newtype_variant j)) =
+    Means (Group left_parenthesis right_parenthesis (Content x.unwrap_variant_newtypes (sub 1) j)) (newtype_variant_data enum_name v)
 VariantText x enum_name v room sub (Some (tuple_variant js)) = Group left_parenthesis right_parenthesis (TupleItems (tuple_variant_of enum_name v) js (sub 2))
-VariantText x enum_name v room sub (Some (struct_variant list)) = Group left_parenthesis right_parenthesis (λ gap. Means (Items (λ seen before. FieldItem list (sub 2) (AnyBelow x.unwrap_variant_newtypes room 2) seen) gap) (struct_variant_from enum_name v list.fields))
+VariantText x enum_name v room sub (Some (struct_variant list)) = Group left_parenthesis right_parenthesis (λ gap.
+    Means (Items (λ seen before. FieldItem list (sub 2) (AnyBelow x.unwrap_variant_newtypes room 2) seen) gap) (struct_variant_from enum_name v list.fields))
 
 -- The name of a variant that holds nothing, or the name of another and what it holds. An enum takes one level, and in it the variant's name one.
 abbrev pub EnumText : Extensions → Text → List Variant → ℕ → (ℕ → Langs) → Bool → Lang Data
@@ -66,9 +69,12 @@ EnumText x enum_name variants room sub bare =
 abbrev pub read_variant : Extensions → Text → Text → ℕ → (ℕ → Readers) → Option VariantShape → Reader Data
 read_variant x enum_name v room sub None = fail bad
 read_variant x enum_name v room sub (Some unit_variant) = fail bad
-read_variant x enum_name v room sub (Some (newtype_variant j)) = means (group left_parenthesis right_parenthesis (content x.unwrap_variant_newtypes (sub 1) j)) (newtype_variant_data enum_name v)
+read_variant x enum_name v room sub (Some (newtype_variant j)) =
+    means (group left_parenthesis right_parenthesis (content x.unwrap_variant_newtypes (sub 1) j)) (newtype_variant_data enum_name v)
 read_variant x enum_name v room sub (Some (tuple_variant js)) = group left_parenthesis right_parenthesis (tuple_items (tuple_variant_of enum_name v) js (sub 2))
-read_variant x enum_name v room sub (Some (struct_variant list)) = group left_parenthesis right_parenthesis (λ gap. means (items (λ seen before. field_item list (sub 2) (read_any_below x.unwrap_variant_newtypes room 2) seen) right_parenthesis gap) (struct_variant_from enum_name v list.fields))
+read_variant x enum_name v room sub (Some (struct_variant list)) = group left_parenthesis right_parenthesis
+    (λ gap. means (items (λ seen before. field_item list (sub 2) (read_any_below x.unwrap_variant_newtypes room 2) seen) right_parenthesis gap)
+    (struct_variant_from enum_name v list.fields))
 
 -- the enum
 abbrev pub read_enum : Extensions → Text → List Variant → ℕ → (ℕ → Readers) → Bool → Reader Data

@@ -21,7 +21,8 @@ map_data ps = Some (map_of (folded ps))
 abbrev pub PairItem : ℕ → ℕ → Langs → Text → Lang (Data × Data)
 PairItem k v L before = Then (L false k before) (λ key _. Then (Mark colon done) (λ _ gap. Means (L false v gap) (pair_with key)))
 
--- `{`, pairs with a comma between neighbours and perhaps a last comma, and `}`. Entering the map takes one level, and in it each key and each value one: `sub k` may stand k + 1 levels deeper.
+-- `{`, pairs with a comma between neighbours and perhaps a last comma, and `}`. Entering the map takes one level, and in it each key and each value one: `sub
+-- k` may stand k + 1 levels deeper.
 abbrev pub MapText : ℕ → ℕ → ℕ → (ℕ → Langs) → Bool → Lang Data
 MapText k v room sub bare = Plain bare (Group left_brace right_brace (λ gap. Needs 1 room (Means (Items (λ seen. PairItem k v (sub 1)) gap) map_data)))
 
@@ -33,4 +34,5 @@ pair_item k v r before = in_sequence (r false k before) (λ key _. in_sequence (
 
 -- the map
 abbrev pub read_map : ℕ → ℕ → ℕ → (ℕ → Readers) → Bool → Reader Data
-read_map k v room sub bare = plain bare (group left_brace right_brace (λ gap. needs 1 room (means (items (λ seen. pair_item k v (sub 1)) right_brace gap) map_data)))
+read_map k v room sub bare =
+    plain bare (group left_brace right_brace (λ gap. needs 1 room (means (items (λ seen. pair_item k v (sub 1)) right_brace gap) map_data)))

@@ -22,7 +22,8 @@ ContentAlone name j L before = Means (L false j before) (newtype_data name)
 abbrev pub Wrapped : Text → ℕ → Langs → Lang Data
 Wrapped name j L = Means (Group left_parenthesis right_parenthesis (λ gap. WithComma (L false j gap))) (newtype_data name)
 
--- In brackets, with or without the name before them; under unwrap_newtypes the content alone. Bare the content alone, and perhaps the one comma. The content takes one level: `sub k` may stand k + 1 levels deeper.
+-- In brackets, with or without the name before them; under unwrap_newtypes the content alone. Bare the content alone, and perhaps the one comma. The content
+-- takes one level: `sub k` may stand k + 1 levels deeper.
 abbrev pub NewtypeText : Bool → Bool → Text → ℕ → (ℕ → Langs) → Langs → Bool → Text → Lang Data
 NewtypeText required unwrap name j sub here true before = WithComma (ContentAlone name j here before)
 NewtypeText required true name j sub here false before = ContentAlone name j here before
@@ -42,4 +43,5 @@ wrapped name j r = means (group left_parenthesis right_parenthesis (λ gap. with
 abbrev pub read_newtype : Bool → Bool → Text → ℕ → (ℕ → Readers) → Readers → Bool → Text → Reader Data
 read_newtype required unwrap name j sub here true before = with_comma (content_alone name j here before)
 read_newtype required true name j sub here false before = content_alone name j here before
-read_newtype required false name j sub here false before = pick (is_at left_parenthesis) (without_name required (wrapped name j (sub 0))) (in_sequence (named name) (λ _ _. wrapped name j (sub 0)))
+read_newtype required false name j sub here false before =
+    pick (is_at left_parenthesis) (without_name required (wrapped name j (sub 0))) (in_sequence (named name) (λ _ _. wrapped name j (sub 0)))

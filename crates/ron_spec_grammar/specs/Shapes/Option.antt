@@ -40,7 +40,8 @@ NoneText = Means (FixedWord (codes "None") done) none_data
 abbrev pub SomeText : Bool → ℕ → Langs → Lang Data
 SomeText unwrap j L = Then (FixedWord (codes "Some") done) (λ _ _. Means (Group left_parenthesis right_parenthesis (Content unwrap L j)) some_data)
 
--- An option: the word `None`; the word `Some` with its content; or, under implicit_some, the content itself, bare where the option is, where neither form of a written option begins. A Some takes one level: `sub k` may stand k + 1 levels deeper, and `here` one level deeper at the very place.
+-- An option: the word `None`; the word `Some` with its content; or, under implicit_some, the content itself, bare where the option is, where neither form of a
+-- written option begins. A Some takes one level: `sub k` may stand k + 1 levels deeper, and `here` one level deeper at the very place.
 abbrev pub OptionText : Extensions → ℕ → (ℕ → Langs) → Langs → Bool → Text → Lang Data
 OptionText x j sub here bare before =
     Or (Plain bare NoneText)

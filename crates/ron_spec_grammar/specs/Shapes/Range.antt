@@ -57,7 +57,8 @@ filled_two f a g b = option_and_then (λ d. option_map (λ e. field_and f.name d
 --
 -- The fields of a range struct, which are its start, its end, or these two in this order, and no others.
 abbrev pub range_fields : List Shape → Text → List Field → Interval → Option Fields
-range_fields schema name (f ∷ g ∷ []) (range (Some a) closed (Some b)) = if spans closed name && (is_start f && is_end closed g) then filled_two f (fill_field schema f a) g (fill_field schema g b) else None
+range_fields schema name (f ∷ g ∷ []) (range (Some a) closed (Some b)) =
+    if spans closed name && (is_start f && is_end closed g) then filled_two f (fill_field schema f a) g (fill_field schema g b) else None
 range_fields schema name (f ∷ []) (range (Some a) closed None) = if starts closed name && is_start f then filled_one f (fill_field schema f a) else None
 range_fields schema name (f ∷ []) (range None closed (Some b)) = if reaches closed name && is_end closed f then filled_one f (fill_field schema f b) else None
 range_fields schema name _ _ = None

@@ -31,7 +31,8 @@ RawText x room at_start bare before = Plain bare (Means (RawPart x.unwrap_varian
 -- ---- its reader function
 
 abbrev pub raw_part : Bool → ℕ → Bool → Text → Reader Text
-raw_part unwrap room at_start before = in_sequence (stretch (read_any unwrap room false before)) (λ core after. means (give done) (taken at_start before core after))
+raw_part unwrap room at_start before =
+    in_sequence (stretch (read_any unwrap room false before)) (λ core after. means (give done) (taken at_start before core after))
 
 abbrev pub read_raw : Extensions → ℕ → Bool → Bool → Text → Reader Data
 read_raw x room at_start bare before = plain bare (means (raw_part x.unwrap_variant_newtypes room at_start before) raw_data)

@@ -43,7 +43,8 @@ pub data Target : Type 0 where
 
 -- a new field; or, where unknown fields are skipped, a name that calls no field
 abbrev pub target : FieldList → List Item → Text → Option Target
-target list seen name = if list.skips_unknown && not (list_any (is_called name) list.fields) then Some (unknown name) else option_map known (new_field list.fields seen name)
+target list seen name =
+    if list.skips_unknown && not (list_any (is_called name) list.fields) then Some (unknown name) else option_map known (new_field list.fields seen name)
 
 -- An unknown field's value is dropped.
 abbrev pub skipped : Text → Tree → Option Item
@@ -91,12 +92,15 @@ FieldItem list L U seen = Then (Means Name (target list seen)) (λ t _. Then (Ma
 abbrev pub FieldItems : Text → FieldList → Langs → (Text → Lang Tree) → Text → Lang Data
 FieldItems name list L U before = Means (Items (λ seen _. FieldItem list L U seen) before) (struct_from name list.fields)
 
--- `(`, the fields and `)`, with the struct's name before it, or without it where no name is required. Bare, the fields alone. A range takes no name and no level, bare or not. Entering a struct takes one level, and `sub k` may stand k + 1 levels deeper.
+-- `(`, the fields and `)`, with the struct's name before it, or without it where no name is required. Bare, the fields alone. A range takes no name and no
+-- level, bare or not. Entering a struct takes one level, and `sub k` may stand k + 1 levels deeper.
 abbrev pub StructText : Extensions → List Shape → Text → FieldList → ℕ → (ℕ → Langs) → Bool → Text → Lang Data
 StructText x schema name list room sub false before =
-    let G : Lang Data = Group left_parenthesis right_parenthesis (λ gap. Needs 1 room (FieldItems name list (sub 1) (AnyBelow x.unwrap_variant_newtypes room 1) gap)) in
+    let G : Lang Data =
+    Group left_parenthesis right_parenthesis (λ gap. Needs 1 room (FieldItems name list (sub 1) (AnyBelow x.unwrap_variant_newtypes room 1) gap)) in
     Or (RangeText false (range_data schema name list.fields)) (Or (WithoutName x.explicit_struct_names G) (Then (Named name) (λ _ _. G)))
-StructText x schema name list room sub true before = Or (RangeText true (range_data schema name list.fields)) (Needs 1 room (FieldItems name list (sub 1) (AnyBelow x.unwrap_variant_newtypes room 1) before))
+StructText x schema name list room sub true before =
+    Or (RangeText true (range_data schema name list.fields)) (Needs 1 room (FieldItems name list (sub 1) (AnyBelow x.unwrap_variant_newtypes room 1) before))
 
 -- ---- its reader function
 
@@ -116,6 +120,9 @@ field_items name list r u before = means (items (λ seen _. field_item list r u 
 -- the struct
 abbrev pub read_struct : Extensions → List Shape → Text → FieldList → ℕ → (ℕ → Readers) → Bool → Text → Reader Data
 read_struct x schema name list room sub false before =
-    let g : Reader Data = group left_parenthesis right_parenthesis (λ gap. needs 1 room (field_items name list (sub 1) (read_any_below x.unwrap_variant_newtypes room 1) gap)) in
-    pick opens_interval (read_range false (range_data schema name list.fields)) (pick (is_at left_parenthesis) (without_name x.explicit_struct_names g) (in_sequence (named name) (λ _ _. g)))
-read_struct x schema name list room sub true before = pick opens_interval (read_range true (range_data schema name list.fields)) (needs 1 room (field_items name list (sub 1) (read_any_below x.unwrap_variant_newtypes room 1) before))
+    let g : Reader Data =
+    group left_parenthesis right_parenthesis (λ gap. needs 1 room (field_items name list (sub 1) (read_any_below x.unwrap_variant_newtypes room 1) gap)) in
+    pick opens_interval (read_range false (range_data schema name list.fields))
+    (pick (is_at left_parenthesis) (without_name x.explicit_struct_names g) (in_sequence (named name) (λ _ _. g)))
+read_struct x schema name list room sub true before = pick opens_interval (read_range true (range_data schema name list.fields))
+    (needs 1 room (field_items name list (sub 1) (read_any_below x.unwrap_variant_newtypes room 1) before))

@@ -17,10 +17,12 @@ unit_struct_data name a = Some (unit_struct_of name)
 
 -- `..` where it is the range of all, the struct's name, or `()` where no name is required; bare `..` or nothing, and perhaps the one comma
 abbrev pub UnitStructText : Bool → Text → Bool → Lang Data
-UnitStructText required name false = Or (RangeText false (full_data name)) (Or (WithoutName required (Means EmptyBrackets (unit_struct_data name))) (Means (Named name) (unit_struct_data name)))
+UnitStructText required name false =
+    Or (RangeText false (full_data name)) (Or (WithoutName required (Means EmptyBrackets (unit_struct_data name))) (Means (Named name) (unit_struct_data name)))
 UnitStructText required name true = Or (RangeText true (full_data name)) (Means (OptComma done) (unit_struct_data name))
 
 -- its reader function
 abbrev pub read_unit_struct : Bool → Text → Bool → Reader Data
-read_unit_struct required name false = pick opens_interval (read_range false (full_data name)) (pick (is_at left_parenthesis) (without_name required (means empty_brackets (unit_struct_data name))) (means (named name) (unit_struct_data name)))
+read_unit_struct required name false = pick opens_interval (read_range false (full_data name))
+    (pick (is_at left_parenthesis) (without_name required (means empty_brackets (unit_struct_data name))) (means (named name) (unit_struct_data name)))
 read_unit_struct required name true = pick opens_interval (read_range true (full_data name)) (means (opt_comma done) (unit_struct_data name))

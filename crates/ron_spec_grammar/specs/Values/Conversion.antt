@@ -15,8 +15,10 @@ use Rattle.ron_value_number.specs.declared.width.Width.TheVariants.{U8}
 use Rattle.ron_value_number.specs.Width.{fits}
 use Rattle.ron_value.specs.Tree.{Tree}
 use Rattle.ron_value.specs.Tree as tree
-use Rattle.ron_spec_grammar.specs.Data.{Data, bool_of, int_of, char_of, str_of, bytes_of, the_unit, the_none, some_of, unit_struct_of, list_of, tuple_of, tuple_struct_of, newtype_of, value_of, raw_of, Datas, no_datas, data_and}
-use Rattle.ron_spec_grammar.specs.Schema.{FieldList, Shape, bool, int, char, str, bytes, unit, optional, unit_struct, seq, tuple, tuple_struct, map, newtype, struct, any_value, any_raw}
+use Rattle.ron_spec_grammar.specs.Data.{Data, bool_of, int_of, char_of, str_of, bytes_of, the_unit, the_none, some_of, unit_struct_of, list_of, tuple_of}
+use Rattle.ron_spec_grammar.specs.Data.{tuple_struct_of, newtype_of, value_of, raw_of, Datas, no_datas, data_and}
+use Rattle.ron_spec_grammar.specs.Schema.{FieldList, Shape, bool, int, char, str, bytes, unit, optional, unit_struct, seq, tuple, tuple_struct, map, newtype}
+use Rattle.ron_spec_grammar.specs.Schema.{struct, any_value, any_raw}
 use Rattle.ron_spec_grammar.specs.Raw.{raw_valid}
 use Rattle.ron_spec_grammar.specs.Shapes.Bytes.{natural}
 use Rattle.ron_spec_grammar.specs.Shapes.Map.{map_data}
@@ -112,18 +114,22 @@ followed more item = option_and_then (λ x. option_map (λ xs. x ∷ xs) (more x
 
 -- ---- the conversion
 
--- The data of the shape at an index that a value becomes. Numbers need only fit; a list becomes bytes, a tuple of its length, or a newtype where it has one item; a map whose keys are names or aliases of fields, and of each field one at most, becomes a struct. In a map a key that comes again behind the conversion keeps its first place and takes the last value. Where the shape is that of values, a value stays as it is. Nothing becomes an enum.
+-- The data of the shape at an index that a value becomes. Numbers need only fit; a list becomes bytes, a tuple of its length, or a newtype where it has one
+-- item; a map whose keys are names or aliases of fields, and of each field one at most, becomes a struct. In a map a key that comes again behind the conversion
+-- keeps its first place and takes the last value. Where the shape is that of values, a value stays as it is. Nothing becomes an enum.
 abbrev mutual
   pub into : List Shape → ℕ → Tree → Option Data
   into schema i (tree.boolean b) = or_itself (tree.boolean b) (slice_get schema i) (boolean_as b (slice_get schema i))
   into schema i (tree.character c) = or_itself (tree.character c) (slice_get schema i) (character_as c (slice_get schema i))
-  into schema i (tree.mapping ps) = or_itself (tree.mapping ps) (slice_get schema i) (mapping_as (λ k v. pairs_into schema k v ps) (λ list. fields_into schema list [] ps) (slice_get schema i))
+  into schema i (tree.mapping ps) = or_itself (tree.mapping ps) (slice_get schema i)
+      (mapping_as (λ k v. pairs_into schema k v ps) (λ list. fields_into schema list [] ps) (slice_get schema i))
   into schema i (tree.number w n) = or_itself (tree.number w n) (slice_get schema i) (number_as n (slice_get schema i))
   into schema i tree.none = or_itself tree.none (slice_get schema i) (none_as (slice_get schema i))
   into schema i (tree.some t) = or_itself (tree.some t) (slice_get schema i) (some_as (λ j. into schema j t) (slice_get schema i))
   into schema i (tree.text bs) = or_itself (tree.text bs) (slice_get schema i) (text_as (chars bs) (slice_get schema i))
   into schema i (tree.bytes bs) = or_itself (tree.bytes bs) (slice_get schema i) (bytes_as bs (slice_get schema i))
-  into schema i (tree.sequence ts) = or_itself (tree.sequence ts) (slice_get schema i) (sequence_as (λ j. all_into schema j ts) (λ js. each_into schema js ts) (λ j. only_into schema j ts) (bytes_among ts) (slice_get schema i))
+  into schema i (tree.sequence ts) = or_itself (tree.sequence ts) (slice_get schema i)
+      (sequence_as (λ j. all_into schema j ts) (λ js. each_into schema js ts) (λ j. only_into schema j ts) (bytes_among ts) (slice_get schema i))
   into schema i tree.unit = or_itself tree.unit (slice_get schema i) (unit_as (slice_get schema i))
 
   -- each item by one shape
@@ -146,9 +152,11 @@ abbrev mutual
   -- each key and each value
   pub pairs_into : List Shape → ℕ → ℕ → tree.Pairs → Option (List (Data × Data))
   pairs_into schema k v tree.no_pairs = Some []
-  pairs_into schema k v (tree.pair_and key t ps) = with_both (λ p rest. p ∷ rest) (with_both (λ a b. (a, b)) (into schema k key) (into schema v t)) (pairs_into schema k v ps)
+  pairs_into schema k v (tree.pair_and key t ps) =
+      with_both (λ p rest. p ∷ rest) (with_both (λ a b. (a, b)) (into schema k key) (into schema v t)) (pairs_into schema k v ps)
 
   -- each key as a name or an alias of a field, no field twice, and each value by that field's shape; behind these items
   pub fields_into : List Shape → FieldList → List Item → tree.Pairs → Option (List Item)
   fields_into schema list seen tree.no_pairs = Some []
-  fields_into schema list seen (tree.pair_and key t ps) = followed (λ item. fields_into schema list (item ∷ seen) ps) (option_and_then (item_as (λ j. into schema j t)) (field_named list seen key))
+  fields_into schema list seen (tree.pair_and key t ps) =
+      followed (λ item. fields_into schema list (item ∷ seen) ps) (option_and_then (item_as (λ j. into schema j t)) (field_named list seen key))

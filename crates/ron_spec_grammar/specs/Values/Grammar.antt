@@ -1,6 +1,7 @@
 -- Values without a schema: what a value begins with, the grammar, and its reader function.
 use Rattle.std.specs.Prelude.{ℕ, Bool, true, false, not, ◌==◌, if◌then◌else◌, List, [], ◌∷◌, codes, Option, Some, None, option_map, encode_utf8_all}
-use Rattle.ron_spec_words.specs.Characters.{Text, single_quote, left_parenthesis, right_parenthesis, left_bracket, right_bracket, left_brace, right_brace, colon}
+use Rattle.ron_spec_words.specs.Characters.{Text, single_quote, left_parenthesis, right_parenthesis, left_bracket, right_bracket, left_brace, right_brace}
+use Rattle.ron_spec_words.specs.Characters.{colon}
 use Rattle.ron_spec_words.specs.Runs.{is_at, begins_with}
 use Rattle.ron_spec_words.specs.Lang.{Lang, done, Nothing, Empty, Mark, Then, Means, Or, When, Items, Group, WithComma, Needs}
 use Rattle.ron_spec_words.specs.Reader.{deep, Reader, fail, give, mark, in_sequence, means, pick, items, group, with_comma, needs}
@@ -173,7 +174,8 @@ WordValue unwrap room sub =
     (Or (Then UntypedName (λ _ _. RoundGroup room (sub 1)))
     (Means UntypedName unit_value)))))
 
--- A value. A Some takes one level; so does entering a list, a map or a group, and in it each item, key and value: `sub k` may stand k + 1 levels deeper. `()` with no gap within is the unit.
+-- A value. A Some takes one level; so does entering a list, a map or a group, and in it each item, key and value: `sub k` may stand k + 1 levels deeper. `()`
+-- with no gap within is the unit.
 abbrev pub OneValue : Bool → ℕ → (ℕ → Values) → Lang Tree
 OneValue unwrap room sub =
     Or (Means Char character_value)
@@ -232,7 +234,8 @@ items_inside f close r before = means (items (λ _ gap. r false gap) close befor
 
 -- fields or items in parentheses
 abbrev pub round_group : ℕ → ValueReaders → Reader Tree
-round_group room r = group left_parenthesis right_parenthesis (λ gap. needs 1 room (pick opens_field (fields_inside r gap) (items_inside list_value right_parenthesis r gap)))
+round_group room r =
+    group left_parenthesis right_parenthesis (λ gap. needs 1 room (pick opens_field (fields_inside r gap) (items_inside list_value right_parenthesis r gap)))
 
 -- what stands in the parentheses of a Some
 abbrev pub some_content : Bool → ValueReaders → Text → Reader Tree
@@ -245,7 +248,8 @@ word_value unwrap room sub =
     pick (stands (codes "true")) (fixed_word (codes "true") (tree.boolean true))
     (pick (stands (codes "false")) (fixed_word (codes "false") (tree.boolean false))
     (pick (stands (codes "None")) (fixed_word (codes "None") tree.none)
-    (pick (stands (codes "Some")) (in_sequence (fixed_word (codes "Some") done) (λ _ _. means (group left_parenthesis right_parenthesis (some_content unwrap (sub 0))) some_value))
+    (pick (stands (codes "Some"))
+    (in_sequence (fixed_word (codes "Some") done) (λ _ _. means (group left_parenthesis right_parenthesis (some_content unwrap (sub 0))) some_value))
     (pick opens_named_group (in_sequence untyped_name (λ _ _. round_group room (sub 1)))
     (means untyped_name unit_value)))))
 

@@ -9,7 +9,8 @@ use Rattle.ron_value.specs.Tree.{Tree, pairs_from}
 use Rattle.ron_value.specs.Tree as tree
 use Rattle.ron_value.specs.Order.{tree_cmp}
 use Rattle.ron_value.specs.Ordered.{IsOrdered}
-use Rattle.ron_spec_grammar.specs.Data.{Data, bool_of, int_of, char_of, str_of, bytes_of, the_unit, the_none, some_of, list_of, map_of, Datas, no_datas, data_and, Pairs, no_pairs, pair_and}
+use Rattle.ron_spec_grammar.specs.Data.{Data, bool_of, int_of, char_of, str_of, bytes_of, the_unit, the_none, some_of, list_of, map_of, Datas, no_datas}
+use Rattle.ron_spec_grammar.specs.Data.{data_and, Pairs, no_pairs, pair_and}
 
 -- ---- maps
 

@@ -10,4 +10,5 @@ returns-clause-reads_back g c =
     let usual = c.default.ensures in
     let back = c.from_str.ensures.reads_back in
     subst (λ (limit : Option ℕ). ReadsTypeBack T.data T.normal T.accepts no_extensions limit T.schema_is (chars c.args.s.now) c.from_str.result) usual.1
-    (subst (λ (x : Extensions). ReadsTypeBack T.data T.normal T.accepts x c.default.result.recursion_limit T.schema_is (chars c.args.s.now) c.from_str.result) usual.0 back)
+    (subst (λ (x : Extensions). ReadsTypeBack T.data T.normal T.accepts x c.default.result.recursion_limit T.schema_is (chars c.args.s.now) c.from_str.result)
+    usual.0 back)

@@ -14,7 +14,8 @@ returns-in_err-data-clause-deep c t room z beyond =
     rw (p.1, p.2) (value_deep _ _ _ _ c.default.ensures.0 c.default.ensures.1 c.in-Ok.ensures _ c.in_err-data.ensures.deep t room z beyond)
 
 pub returns-clause-ok : goal.returns-clause-ok
-returns-clause-ok c = value_ok _ _ _ _ c.default.ensures.0 c.default.ensures.1 c.in-Ok.ensures _ _ _ c.in-Value.is c.in_ok-value.ensures.value c.in_ok-data.ensures.ok
+returns-clause-ok c =
+    value_ok _ _ _ _ c.default.ensures.0 c.default.ensures.1 c.in-Ok.ensures _ _ _ c.in-Value.is c.in_ok-value.ensures.value c.in_ok-data.ensures.ok
 
 pub returns-clause-maps : goal.returns-clause-maps
 returns-clause-maps c = value_maps _ _ _ _ _ c.in-Value.is c.in_ok-value.ensures.value c.in_ok-data.ensures.of_schema
@@ -35,7 +36,8 @@ returns-in_err-value-clause-errors c =
     rw (p.1, p.2) c.in_err-value.ensures.errors
 
 pub returns-clause-only : goal.returns-clause-only
-returns-clause-only c = value_only _ _ _ _ c.default.ensures.0 c.default.ensures.1 c.in-Ok.ensures _ _ _ c.in-Value.is c.in_ok-value.ensures.value c.in_ok-data.ensures.only
+returns-clause-only c =
+    value_only _ _ _ _ c.default.ensures.0 c.default.ensures.1 c.in-Ok.ensures _ _ _ c.in-Value.is c.in_ok-value.ensures.value c.in_ok-data.ensures.only
 
 pub returns-clause-deep : goal.returns-clause-deep
 returns-clause-deep c t room z beyond = value_deep _ _ _ _ c.default.ensures.0 c.default.ensures.1 c.in-Ok.ensures _ c.in_ok-data.ensures.deep t room z beyond
@@ -46,4 +48,5 @@ returns-in_err-data-clause-errors c =
     rw (p.1, p.2) (value_refused _ _ _ _ c.default.ensures.0 c.default.ensures.1 c.in-Ok.ensures _ c.in_err-data.ensures.errors)
 
 pub returns-clause-errors : goal.returns-clause-errors
-returns-clause-errors c = value_tells _ _ _ _ c.default.ensures.0 c.default.ensures.1 c.in-Ok.ensures _ _ _ c.in-Value.is c.in_ok-value.ensures.value c.in_ok-data.ensures.errors
+returns-clause-errors c =
+    value_tells _ _ _ _ c.default.ensures.0 c.default.ensures.1 c.in-Ok.ensures _ _ _ c.in-Value.is c.in_ok-value.ensures.value c.in_ok-data.ensures.errors

@@ -13,5 +13,6 @@ loop-c-preserved g c plain =
 
 pub returns : goal.returns
 returns g c plain ok =
-    let end = YieldsList-end (YieldsList-from_chars c.args.text.now c.utf8.text cc) c.loop-c.yielded _ c.loop-c.yielded_by _ _ c.in-None.is c.next.ensures.steps in
+    let end =
+    YieldsList-end (YieldsList-from_chars c.args.text.now c.utf8.text cc) c.loop-c.yielded _ c.loop-c.yielded_by _ _ c.in-None.is c.next.ensures.steps in
     has_written_of_eq _ _ _ _ _ (ap (λ t. encode_utf8_all (escaped c.args.quotes t)) (sym (map-id c.loop-c.yielded) ∙ end.0)) (c.loop-c.invariant plain)

@@ -12,4 +12,5 @@ returns-then-is_ascii_word c =
     c.if-is_ascii_word.true ∙ sym (ap (list_all in_raw_name) (word_chars c.args.text.now word) ∙ word_in_raw_name c.args.text.now word)
 
 pub returns-else-is_ascii_word : goal.returns-else-is_ascii_word
-returns-else-is_ascii_word c = all_from_yields_List in_raw_name _ _ _ c.all.ensures.ran (YieldsList-from_chars c.args.text.now c.utf8.text cc) (λ x b q k. search (rules, tests))
+returns-else-is_ascii_word c =
+    all_from_yields_List in_raw_name _ _ _ c.all.ensures.ran (YieldsList-from_chars c.args.text.now c.utf8.text cc) (λ x b q k. search (rules, tests))

@@ -10,4 +10,5 @@ returns-then-starts_name c =
     let name = c.args.name.now in
     let rest = c.next.new.self.rest.now in
     let whole = sym c.chars-rest.ensures.rest ∙ c.in-Some.ensures.steps.0 in
-    c.all_continue.ensures ∙ ap (λ t. list_all continues_name (chars t)) c.as_str.ensures ∙ ap (λ b. b && list_all continues_name (chars rest)) c.if-starts_name.ensures ∙ ap is_plain_identifier (sym (chars_past_char name rest c.in-Some.c c.utf8.name whole))
+    c.all_continue.ensures ∙ ap (λ t. list_all continues_name (chars t)) c.as_str.ensures ∙ ap (λ b. b && list_all continues_name (chars rest))
+    c.if-starts_name.ensures ∙ ap is_plain_identifier (sym (chars_past_char name rest c.in-Some.c c.utf8.name whole))

@@ -8,7 +8,8 @@ abbrev pub invariant-compare_items-loop-i : goal.invariant-compare_items-loop-i
 invariant-compare_items-loop-i l = record {
   in_items : l.i ≤ length l.items;
   in_others : l.i ≤ length l.others;
-  rest : slice_cmp data_cmp (map data_view (drop l.i l.items)) (map data_view (drop l.i l.others)) ≡ slice_cmp data_cmp (map data_view l.items) (map data_view l.others);
+  rest : slice_cmp data_cmp (map data_view (drop l.i l.items)) (map data_view (drop l.i l.others))
+      ≡ slice_cmp data_cmp (map data_view l.items) (map data_view l.others);
 }
 
 abbrev pub decreases-compare_items-loop-i : goal.decreases-compare_items-loop-i
@@ -18,7 +19,8 @@ abbrev pub invariant-compare_pairs-loop-i : goal.invariant-compare_pairs-loop-i
 invariant-compare_pairs-loop-i l = record {
   in_pairs : l.i ≤ length l.pairs;
   in_others : l.i ≤ length l.others;
-  rest : slice_cmp pair_cmp (map pair_view (drop l.i l.pairs)) (map pair_view (drop l.i l.others)) ≡ slice_cmp pair_cmp (map pair_view l.pairs) (map pair_view l.others);
+  rest : slice_cmp pair_cmp (map pair_view (drop l.i l.pairs)) (map pair_view (drop l.i l.others))
+      ≡ slice_cmp pair_cmp (map pair_view l.pairs) (map pair_view l.others);
 }
 
 abbrev pub decreases-compare_pairs-loop-i : goal.decreases-compare_pairs-loop-i
@@ -28,7 +30,8 @@ abbrev pub invariant-compare_fields-loop-i : goal.invariant-compare_fields-loop-
 invariant-compare_fields-loop-i l = record {
   in_fields : l.i ≤ length l.fields;
   in_others : l.i ≤ length l.others;
-  rest : slice_cmp field_cmp (map named_view (drop l.i l.fields)) (map named_view (drop l.i l.others)) ≡ slice_cmp field_cmp (map named_view l.fields) (map named_view l.others);
+  rest : slice_cmp field_cmp (map named_view (drop l.i l.fields)) (map named_view (drop l.i l.others))
+      ≡ slice_cmp field_cmp (map named_view l.fields) (map named_view l.others);
 }
 
 abbrev pub decreases-compare_fields-loop-i : goal.decreases-compare_fields-loop-i

@@ -8,20 +8,24 @@ use Rattle.ron_data.proofs.owned.+owned.Goals as goal
 
 pub owned-returns-in_ok-owned_box-in-Some : goal.owned-returns-in_ok-owned_box-in-Some
 owned-returns-in_ok-owned_box-in-Some t c =
-    view-some c.in_ok-owned_box-in-Some.field-0 ∙ ap plain.some_of c.in_ok-owned_box-in-Some.ensures ∙ sym (view-some c.in-Some.content) ∙ sym (ap data_view (c.in-Option.is ∙ ap data_.Option c.in-Some.is))
+    view-some c.in_ok-owned_box-in-Some.field-0 ∙ ap plain.some_of c.in_ok-owned_box-in-Some.ensures ∙ sym (view-some c.in-Some.content)
+    ∙ sym (ap data_view (c.in-Option.is ∙ ap data_.Option c.in-Some.is))
 
 pub owned-returns-in_ok-owned_pairs-in-Map : goal.owned-returns-in_ok-owned_pairs-in-Map
 owned-returns-in_ok-owned_pairs-in-Map t c =
-    view-map c.in_ok-owned_pairs-in-Map.field-0 ∙ ap (λ ps. plain.map_of (pairs_of ps)) c.in_ok-owned_pairs-in-Map.ensures ∙ sym (view-map c.in-Map.pairs) ∙ sym (ap data_view c.in-Map.is)
+    view-map c.in_ok-owned_pairs-in-Map.field-0 ∙ ap (λ ps. plain.map_of (pairs_of ps)) c.in_ok-owned_pairs-in-Map.ensures ∙ sym (view-map c.in-Map.pairs)
+    ∙ sym (ap data_view c.in-Map.is)
 
 pub owned-returns-in_ok-owned_fields-in-Struct : goal.owned-returns-in_ok-owned_fields-in-Struct
 owned-returns-in_ok-owned_fields-in-Struct t c =
-    view-struct c.in-Struct.name c.in_ok-owned_fields-in-Struct.field-0 ∙ ap (λ fs. plain.struct_of (chars (string_bytes c.in-Struct.name)) (fields_of fs)) c.in_ok-owned_fields-in-Struct.ensures ∙ sym (view-struct c.in-Struct.name c.in-Struct.fields) ∙ sym (ap data_view c.in-Struct.is)
+    view-struct c.in-Struct.name c.in_ok-owned_fields-in-Struct.field-0 ∙ ap (λ fs. plain.struct_of (chars (string_bytes c.in-Struct.name)) (fields_of fs))
+    c.in_ok-owned_fields-in-Struct.ensures ∙ sym (view-struct c.in-Struct.name c.in-Struct.fields) ∙ sym (ap data_view c.in-Struct.is)
 
 pub owned_content-returns-in_ok-owned_fields-in-Struct :
     goal.owned_content-returns-in_ok-owned_fields-in-Struct
 owned_content-returns-in_ok-owned_fields-in-Struct t c =
-    view-named c.in_ok-owned_fields-in-Struct.field-0 ∙ ap (λ fs. named_of (fields_of fs)) c.in_ok-owned_fields-in-Struct.ensures ∙ sym (view-named c.in-Struct.fields) ∙ sym (ap content_view c.in-Struct.is)
+    view-named c.in_ok-owned_fields-in-Struct.field-0 ∙ ap (λ fs. named_of (fields_of fs)) c.in_ok-owned_fields-in-Struct.ensures
+    ∙ sym (view-named c.in-Struct.fields) ∙ sym (ap content_view c.in-Struct.is)
 
 pub owned-owned_fields-requires : goal.owned-owned_fields-requires
 owned-owned_fields-requires t c =

@@ -11,7 +11,8 @@ pub loop-i-preserved : goal.loop-i-preserved
 loop-i-preserved c =
     let before = c.index-pairs-i.is in
     let here = c.index-pairs-i-in-loop-i.is in
-    one_ascends c.args.pairs.now c.loop-i.i c.index-pairs-i.result c.index-pairs-i-in-loop-i.result (omega arith) before here ((λ j. data_cmp (data_view (before j).0) (data_view (here j).0)) ∙ sym c.compare.ensures ∙ only_Less c.compare.result (search rules)) c.loop-i.invariant
+    one_ascends c.args.pairs.now c.loop-i.i c.index-pairs-i.result c.index-pairs-i-in-loop-i.result (omega arith) before here
+    ((λ j. data_cmp (data_view (before j).0) (data_view (here j).0)) ∙ sym c.compare.ensures ∙ only_Less c.compare.result (search rules)) c.loop-i.invariant
 
 pub returns : goal.returns
 returns c = λ yes. all_differ c.args.pairs.now c.loop-i.i (omega arith) c.loop-i.invariant.differ

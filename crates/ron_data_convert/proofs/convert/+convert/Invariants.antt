@@ -82,6 +82,7 @@ abbrev pub invariant-fields-loop-key : goal.invariant-fields-loop-key
 invariant-fields-loop-key l = record {
   few : length l.fn.list.fields.items ≤ length l.is_filled;
   places : ArePlaces l.list.fields.items l.is_filled l.all.items;
-  so_far : SlotsSoFar (shapes_of l.schema) (list_view l.list) (entries l.fn.held) (slots_at l.list.fields.items l.is_filled l.all.items) (owned_left l.key-iterator);
+  so_far : SlotsSoFar (shapes_of l.schema) (list_view l.list) (entries l.fn.held) (slots_at l.list.fields.items l.is_filled l.all.items)
+      (owned_left l.key-iterator);
   smaller : pairs_size (pairs_tree (owned_left l.key-iterator)) ≤ pairs_size (pairs_tree (entries l.fn.held));
 }

@@ -8,12 +8,16 @@ use Rattle.ron_data_convert.proofs.fields.named_field.Goals as goal
 pub returns-clause-value : goal.returns-clause-value
 returns-clause-value c seen are =
     let key : tree_of c.args.key ≡ text c.as_str.result.now = c.in-Ok.ensures ∙ ap text (sym c.as_str.ensures.value) in
-    key_kept c.args.list.now (tree_of c.args.key) c.as_str.result.now key seen c.args.found.now c.in-Some.index false c.in-Some.ensures (sym c.is_filled.ensures ∙ c.if-is_filled.false) are
+    key_kept c.args.list.now (tree_of c.args.key) c.as_str.result.now key seen c.args.found.now c.in-Some.index false c.in-Some.ensures
+    (sym c.is_filled.ensures ∙ c.if-is_filled.false) are
 
 pub returns-then-is_filled-clause-value : goal.returns-then-is_filled-clause-value
 returns-then-is_filled-clause-value c seen are =
-    let key : tree_of c.args.key ≡ text c.as_str.result.now = c.in-Ok.ensures ∙ ap text (sym c.as_str.ensures.value) in
-    (sym (key_again c.args.list.now (tree_of c.args.key) c.as_str.result.now key seen c.in-Some.index c.in-Some.ensures), key_kept c.args.list.now (tree_of c.args.key) c.as_str.result.now key seen c.args.found.now c.in-Some.index true c.in-Some.ensures (sym c.is_filled.ensures ∙ c.if-is_filled.true) are)
+    let key : tree_of c.args.key ≡ text c.as_str.result.now = c.in-Ok.ensures ∙ ap text (sym c.as_str.ensures.value) in (
+      sym (key_again c.args.list.now (tree_of c.args.key) c.as_str.result.now key seen c.in-Some.index c.in-Some.ensures),
+      key_kept c.args.list.now (tree_of c.args.key) c.as_str.result.now key seen c.args.found.now c.in-Some.index true c.in-Some.ensures
+          (sym c.is_filled.ensures ∙ c.if-is_filled.true) are,
+    )
 
 pub returns-then-list-clause-value : goal.returns-then-list-clause-value
 returns-then-list-clause-value c seen are =

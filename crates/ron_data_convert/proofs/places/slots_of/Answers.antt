@@ -11,8 +11,11 @@ bounds-is_filled-index c = (from_within _ _ _ _ _ _ _ _ c.loop-value.invariant.f
 pub put-requires-clause-free : goal.put-requires-clause-free
 put-requires-clause-free c =
     let h = c.loop-value.invariant.from in
-    let lt = (from_within _ _ _ _ _ _ _ _ h c.in-Some.ensures.steps.0 c.requires.places).0 in
-    (lt, sym (slot_kept (length c.args.list.now.fields.items) (so_far c.loop-value.slots) c.loop-value.index lt) ∙ not_filled _ _ _ _ _ _ _ _ h c.in-Some.ensures.steps.0)
+    let lt = (from_within _ _ _ _ _ _ _ _ h c.in-Some.ensures.steps.0 c.requires.places).0 in (
+      lt,
+      sym (slot_kept (length c.args.list.now.fields.items) (so_far c.loop-value.slots) c.loop-value.index lt)
+          ∙ not_filled _ _ _ _ _ _ _ _ h c.in-Some.ensures.steps.0,
+    )
 
 pub loop-value-preserved : goal.loop-value-preserved
 loop-value-preserved c =

@@ -8,7 +8,8 @@ use Rattle.ron_spec_grammar.proofs.AttributeTurns.{start_behind}
 use Rattle.ron_de_head.proofs.attributes.read_head.Given as goal
 
 abbrev pub invariant-attributes : goal.invariant-attributes
-invariant-attributes l = (l.cursor.text ≡ l.fn.cursor.text) × (value_start l.fn.default_extensions l.fn.cursor.rest ≡ start_behind l.extensions l.cursor.gap l.cursor.rest)
+invariant-attributes l =
+    (l.cursor.text ≡ l.fn.cursor.text) × (value_start l.fn.default_extensions l.fn.cursor.rest ≡ start_behind l.extensions l.cursor.gap l.cursor.rest)
     × (l.cursor.token_start ≡ l.cursor.rest) × (is_at 35 (skip l.fn.cursor.rest) ≡ false → l.cursor.rest ≡ skip l.fn.cursor.rest)
     × (l.cursor.turns + bytes_in l.cursor.gap + 2 * bytes_in l.cursor.rest ≤ l.fn.cursor.turns + 2 * bytes_in l.fn.cursor.rest)
     × Leads l.fn.cursor.rest l.cursor.rest

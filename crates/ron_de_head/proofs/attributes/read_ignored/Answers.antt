@@ -13,7 +13,10 @@ pub returns-in_err-pass_string-clause-turns : goal.returns-in_err-pass_string-cl
 returns-in_err-pass_string-clause-turns c =
     let p = err_from_is_err_and c.from_residual-in_err-pass_string.result c.from_residual-in_err-pass_string.ensures.1 in
     let gap = gap_twice c.take_ignored_word.new.cursor c.pass_gap.new.cursor c.in_ok-pass_gap.ensures.turns.moved c.in_ok-pass_gap.ensures.rest in
-    rw (p.1, p.2) (record { moved = tt; most = omega (arith, gap, c.take_ignored_word.ensures.turns, c.in_ok-take_mark.ensures.turns.moved, c.in_err-pass_string.ensures.turns.most) })
+    rw (p.1, p.2) (record {
+      moved = tt;
+      most = omega (arith, gap, c.take_ignored_word.ensures.turns, c.in_ok-take_mark.ensures.turns.moved, c.in_err-pass_string.ensures.turns.most);
+    })
 
 pub returns-clause-turns : goal.returns-clause-turns
 returns-clause-turns c =

@@ -6,4 +6,6 @@ pub returns-then-take_word-clause-turns : goal.returns-then-take_word-clause-tur
 returns-then-take_word-clause-turns c = mark_over _ c.args.cursor.now c.take_word.new.self c.if-take_word.ensures.taken c.take_word.ensures.turns
 
 pub returns-else-take_word-clause-turns : goal.returns-else-take_word-clause-turns
-returns-else-take_word-clause-turns c = same_twice c.args.cursor.now c.take_word.new.self c.take_word-else-take_word.new.self c.if-take_word.ensures.taken (word_twice c.take_word-else-take_word.result _ c.take_word.new.self c.take_word-else-take_word.new.self c.take_word-else-take_word.ensures.taken c.take_word-else-take_word.ensures.turns)
+returns-else-take_word-clause-turns c = same_twice c.args.cursor.now c.take_word.new.self c.take_word-else-take_word.new.self c.if-take_word.ensures.taken
+    (word_twice c.take_word-else-take_word.result _ c.take_word.new.self c.take_word-else-take_word.new.self c.take_word-else-take_word.ensures.taken
+    c.take_word-else-take_word.ensures.turns)

@@ -25,7 +25,8 @@ pub returns-in-Some-clause-shorter : goal.returns-in-Some-clause-shorter
 returns-in-Some-clause-shorter c = (awaited_some _ _ _ _ _ c.in_ok-index.ensures.takes c.in-Some.index c.in-Some.is).shorter
 
 pub returns-in-Some-clause-turns : goal.returns-in-Some-clause-turns
-returns-in-Some-clause-turns c = moves_alone 1 c.args.cursor.now _ c.take_awaited.new.cursor (awaited_some _ _ _ _ _ c.in_ok-index.ensures.takes c.in-Some.index c.in-Some.is).turns
+returns-in-Some-clause-turns c =
+    moves_alone 1 c.args.cursor.now _ c.take_awaited.new.cursor (awaited_some _ _ _ _ _ c.in_ok-index.ensures.takes c.in-Some.index c.in-Some.is).turns
 
 pub returns-in-Some-clause-enters : goal.returns-in-Some-clause-enters
 returns-in-Some-clause-enters c = (awaited_some _ _ _ _ _ c.in_ok-index.ensures.takes c.in-Some.index c.in-Some.is).enters
@@ -38,7 +39,9 @@ returns-in-Some-clause-leads c = (awaited_some _ _ _ _ _ c.in_ok-index.ensures.t
 pub returns-clause-value : goal.returns-clause-value
 returns-clause-value c =
     let look = awaited_none _ _ _ _ _ c.in_ok-index.ensures.takes c.in_default.is in
-    value_behind_look c.args.cursor.now c.take_awaited.new.cursor look.0 (list_view c.args.list.now) (slots_view (slots_in c.args.list.now.fields.items c.args.found.now)) c.read_any_field_name.result c.read_any_field_name.new.cursor c.read_any_field_name.ensures.value
+    value_behind_look c.args.cursor.now c.take_awaited.new.cursor look.0 (list_view c.args.list.now)
+    (slots_view (slots_in c.args.list.now.fields.items c.args.found.now)) c.read_any_field_name.result c.read_any_field_name.new.cursor
+    c.read_any_field_name.ensures.value
 
 pub returns-clause-turns : goal.returns-clause-turns
 returns-clause-turns c =
@@ -48,9 +51,11 @@ returns-clause-turns c =
 pub returns-clause-enters : goal.returns-clause-enters
 returns-clause-enters c =
     let look = awaited_none _ _ _ _ _ c.in_ok-index.ensures.takes c.in_default.is in
-    enters_behind_look c.args.cursor.now c.take_awaited.new.cursor look.0 c.read_any_field_name.result c.read_any_field_name.new.cursor c.read_any_field_name.ensures.enters
+    enters_behind_look c.args.cursor.now c.take_awaited.new.cursor look.0 c.read_any_field_name.result c.read_any_field_name.new.cursor
+    c.read_any_field_name.ensures.enters
 
 pub returns-clause-leads : goal.returns-clause-leads
 returns-clause-leads c =
     let look = awaited_none _ _ _ _ _ c.in_ok-index.ensures.takes c.in_default.is in
-    leads_behind_look c.args.cursor.now c.take_awaited.new.cursor look.0 c.read_any_field_name.result c.read_any_field_name.new.cursor c.read_any_field_name.ensures.leads
+    leads_behind_look c.args.cursor.now c.take_awaited.new.cursor look.0 c.read_any_field_name.result c.read_any_field_name.new.cursor
+    c.read_any_field_name.ensures.leads

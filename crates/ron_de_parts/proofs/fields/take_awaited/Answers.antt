@@ -15,7 +15,8 @@ pub returns-in_err-pass_gap-clause-takes : goal.returns-in_err-pass_gap-clause-t
 returns-in_err-pass_gap-clause-takes c =
     let p = err_from_is_err_and c.from_residual.result c.from_residual.ensures.1 in
     rw (p.1, p.2) (record {
-      value = λ x schema room seen h. text_and _ c.in_err-pass_gap.ensures.fault.0 (awaited_slash c.args.cursor.now c.take_called.new.self c.pass_gap.new.cursor (chars c.in-Some.name.now) c.if-not-take_called.ensures.value x schema room _ seen c.in_err-pass_gap.ensures.slash);
+      value = λ x schema room seen h. text_and _ c.in_err-pass_gap.ensures.fault.0 (awaited_slash c.args.cursor.now c.take_called.new.self c.pass_gap.new.cursor
+          (chars c.in-Some.name.now) c.if-not-take_called.ensures.value x schema room _ seen c.in_err-pass_gap.ensures.slash);
       shorter = tt;
       turns = refused_so 1 c.args.cursor.now c.pass_gap.new.cursor _ (omega (arith, c.if-not-take_called.ensures.turns, c.in_err-pass_gap.ensures.turns.most));
       enters = tt;
@@ -24,9 +25,17 @@ returns-in_err-pass_gap-clause-takes c =
 
 pub returns-clause-takes : goal.returns-clause-takes
 returns-clause-takes c = record {
-  value = awaited_value c.args.cursor.now c.take_called.new.self c.pass_gap.new.cursor (chars c.in-Some.name.now) c.if-not-take_called.ensures.value c.in_ok-pass_gap.ensures.rest c.args.list.now c.args.found.now c.in-Some.index c.in_ok-pass_gap.ensures.slash c.in_ok-pass_gap.ensures.gap c.in-Some.ensures.named c.in-Some.ensures.turn.2;
-  shorter = omega (arith, awaited_shorter c.args.cursor.now c.take_called.new.self c.pass_gap.new.cursor (chars c.in-Some.name.now) c.if-not-take_called.ensures.value, c.pass_gap.ensures.no_longer);
+  value = awaited_value c.args.cursor.now c.take_called.new.self c.pass_gap.new.cursor (chars c.in-Some.name.now) c.if-not-take_called.ensures.value
+      c.in_ok-pass_gap.ensures.rest c.args.list.now c.args.found.now c.in-Some.index c.in_ok-pass_gap.ensures.slash c.in_ok-pass_gap.ensures.gap
+      c.in-Some.ensures.named c.in-Some.ensures.turn.2;
+  shorter = omega (
+    arith,
+    awaited_shorter c.args.cursor.now c.take_called.new.self c.pass_gap.new.cursor (chars c.in-Some.name.now) c.if-not-take_called.ensures.value,
+    c.pass_gap.ensures.no_longer,
+  );
   turns = moved_so 1 c.args.cursor.now c.pass_gap.new.cursor _ (omega (arith, c.if-not-take_called.ensures.turns, c.in_ok-pass_gap.ensures.turns.moved));
-  enters = awaited_enters c.args.cursor.now c.take_called.new.self c.pass_gap.new.cursor (chars c.in-Some.name.now) c.if-not-take_called.ensures.value c.in_ok-pass_gap.ensures.rest c.in_ok-pass_gap.ensures.gap;
-  leads = awaited_leads c.args.cursor.now c.take_called.new.self c.pass_gap.new.cursor (chars c.in-Some.name.now) c.if-not-take_called.ensures.value c.in_ok-pass_gap.ensures.rest;
+  enters = awaited_enters c.args.cursor.now c.take_called.new.self c.pass_gap.new.cursor (chars c.in-Some.name.now) c.if-not-take_called.ensures.value
+      c.in_ok-pass_gap.ensures.rest c.in_ok-pass_gap.ensures.gap;
+  leads = awaited_leads c.args.cursor.now c.take_called.new.self c.pass_gap.new.cursor (chars c.in-Some.name.now) c.if-not-take_called.ensures.value
+      c.in_ok-pass_gap.ensures.rest;
 }

@@ -10,4 +10,5 @@ returns-in_err-end c = λ content ends quote. absurd (c.in_err-end.ensures ends)
 
 pub returns : goal.returns
 returns c = λ content ends quote.
-    behind_quote (chars c.skip_to_quote.result.now) content c.strip_char.result (c.skip_to_quote.ensures.value ∙ ap (λ b. after_run (in_class Unquoted) (chars b)) (c.in_ok-end.ensures ends) ∙ quote) c.strip_char.ensures
+    behind_quote (chars c.skip_to_quote.result.now) content c.strip_char.result
+    (c.skip_to_quote.ensures.value ∙ ap (λ b. after_run (in_class Unquoted) (chars b)) (c.in_ok-end.ensures ends) ∙ quote) c.strip_char.ensures

@@ -11,4 +11,5 @@ returns-clause-same c = front_same c.front_of.result (chars c.in_ok-end.end.now)
 
 pub returns-clause-found : goal.returns-clause-found
 returns-clause-found c = λ ends begins.
-    front_found c.front_of.result (chars c.in_ok-end.end.now) (chars c.args.piece.now) (drop (length (chars c.args.piece.now)) (chars c.args.start.now)) (ap chars (c.in_ok-end.ensures ends) ∙ begins-drop (chars c.args.piece.now) (chars c.args.start.now) begins) c.front_of.ensures
+    front_found c.front_of.result (chars c.in_ok-end.end.now) (chars c.args.piece.now) (drop (length (chars c.args.piece.now)) (chars c.args.start.now))
+    (ap chars (c.in_ok-end.ensures ends) ∙ begins-drop (chars c.args.piece.now) (chars c.args.start.now) begins) c.front_of.ensures

@@ -9,4 +9,5 @@ pub returns-clause-same : goal.returns-clause-same
 returns-clause-same c = front_same c.front_of.result (chars c.in_ok-content.content.now) (chars c.args.piece.now) c.front_of.ensures
 
 pub returns-clause-found : goal.returns-clause-found
-returns-clause-found c = λ ends begins. front_found c.front_of.result (chars c.in_ok-content.content.now) (chars c.args.piece.now) begins.0 (c.in_ok-content.ensures _ ends begins.1) c.front_of.ensures
+returns-clause-found c = λ ends begins. front_found c.front_of.result (chars c.in_ok-content.content.now) (chars c.args.piece.now) begins.0
+    (c.in_ok-content.ensures _ ends begins.1) c.front_of.ensures

@@ -9,4 +9,5 @@ borrowed_from-requires c = c.in-Some.ensures.same ∙ ap chars c.get_ron.ensures
 pub returns-clause-slice : goal.returns-clause-slice
 returns-clause-slice c = λ ends begins.
     let place = chars c.args.start.now in
-    absurd (let no : false ≡ true = c.in-None.ensures.found (subst (λ s. EndsSource s place) (sym c.source.ensures) ends) (subst (λ b. begins_with (chars b) place ≡ true) (sym c.get_ron.ensures.text) begins) in cc)
+    absurd (let no : false ≡ true = c.in-None.ensures.found (subst (λ s. EndsSource s place) (sym c.source.ensures) ends)
+    (subst (λ b. begins_with (chars b) place ≡ true) (sym c.get_ron.ensures.text) begins) in cc)

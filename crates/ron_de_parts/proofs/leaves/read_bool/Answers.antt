@@ -7,11 +7,15 @@ use Rattle.ron_de_parts.proofs.leaves.read_bool.Goals as goal
 
 pub returns-then-take_word-clause-turns : goal.returns-then-take_word-clause-turns
 unfolding literals
-returns-then-take_word-clause-turns c = leaf_read 1 (omega arith) c.args.cursor.now c.take_word.new.self _ c.if-take_word.ensures.turns (true_nears c.args.cursor.now c.take_word.new.self c.if-take_word.ensures.taken)
+returns-then-take_word-clause-turns c = leaf_read 1 (omega arith) c.args.cursor.now c.take_word.new.self _ c.if-take_word.ensures.turns
+    (true_nears c.args.cursor.now c.take_word.new.self c.if-take_word.ensures.taken)
 
 pub returns-then-take_word-2-clause-turns : goal.returns-then-take_word-2-clause-turns
 unfolding literals
-returns-then-take_word-2-clause-turns c = leaf_from c.args.cursor.now c.take_word.new.self _ c.take_word-2.new.self c.if-take_word.ensures.taken (leaf_read 1 (omega arith) c.take_word.new.self c.take_word-2.new.self _ c.if-take_word-2.ensures.turns (false_nears c.take_word.new.self c.take_word-2.new.self c.if-take_word-2.ensures.taken))
+returns-then-take_word-2-clause-turns c =
+    leaf_from c.args.cursor.now c.take_word.new.self _ c.take_word-2.new.self c.if-take_word.ensures.taken (leaf_read 1 (omega arith) c.take_word.new.self
+    c.take_word-2.new.self _ c.if-take_word-2.ensures.turns (false_nears c.take_word.new.self c.take_word-2.new.self c.if-take_word-2.ensures.taken))
 
 pub returns-clause-turns : goal.returns-clause-turns
-returns-clause-turns c = leaf_from c.args.cursor.now c.take_word.new.self _ c.take_word-2.new.self c.if-take_word.ensures.taken (leaf_refused 1 (omega arith) c.take_word.new.self c.take_word-2.new.self _ (over_all 1 c.take_word.new.self c.take_word-2.new.self c.if-take_word-2.ensures.turns))
+returns-clause-turns c = leaf_from c.args.cursor.now c.take_word.new.self _ c.take_word-2.new.self c.if-take_word.ensures.taken (leaf_refused 1 (omega arith)
+    c.take_word.new.self c.take_word-2.new.self _ (over_all 1 c.take_word.new.self c.take_word-2.new.self c.if-take_word-2.ensures.turns))

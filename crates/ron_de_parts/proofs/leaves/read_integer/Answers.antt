@@ -9,4 +9,5 @@ returns-in_err-read_number-clause-turns c =
     rw (p.1, p.2) (leaf_refused 1 (omega arith) c.args.cursor.now c.read_number.new.cursor _ c.in_err-read_number.ensures.turns.most)
 
 pub returns-clause-turns : goal.returns-clause-turns
-returns-clause-turns c = leaf_read 1 (omega arith) c.args.cursor.now c.read_number.new.cursor _ c.in_ok-read_number.ensures.turns.moved c.in_ok-read_number.ensures.near
+returns-clause-turns c =
+    leaf_read 1 (omega arith) c.args.cursor.now c.read_number.new.cursor _ c.in_ok-read_number.ensures.turns.moved c.in_ok-read_number.ensures.near

@@ -50,16 +50,20 @@ pub returns-clause-slice : goal.returns-clause-slice
 returns-clause-slice c source =
     let place = c.rest-start.ensures in
     let read = c.in_ok-text.ensures in
-    let slice = c.in_ok-kept.ensures.slice (ends_here _ _ _ _ place.rest place.end source) (string_here _ _ _ c.in_ok-text.text place.rest read.value read.slice) in
-    kept_string c.args.cursor.now.rest c.read_string.new.cursor.rest c.in_ok-text.text c.in_ok-kept.kept c.in_ok-kept.ensures.same slice (read.slice, read.between)
+    let slice =
+    c.in_ok-kept.ensures.slice (ends_here _ _ _ _ place.rest place.end source) (string_here _ _ _ c.in_ok-text.text place.rest read.value read.slice) in
+    kept_string c.args.cursor.now.rest c.read_string.new.cursor.rest c.in_ok-text.text c.in_ok-kept.kept c.in_ok-kept.ensures.same slice
+    (read.slice, read.between)
 
 pub returns-clause-advance : goal.returns-clause-advance
 returns-clause-advance c = record {
   text = search rules;
   no_longer = search rules;
-  holds = λ source. sliced-str _ c.args.cursor.now.rest c.read_string.new.cursor.rest c.in_ok-kept.kept c.in_ok-text.ensures.end (c.in_ok-text.ensures.value ∙ ap (λ t. got t c.read_string.new.cursor.rest) (sym c.in_ok-kept.ensures.same)) (returns-clause-slice c source);
+  holds = λ source. sliced-str _ c.args.cursor.now.rest c.read_string.new.cursor.rest c.in_ok-kept.kept c.in_ok-text.ensures.end
+      (c.in_ok-text.ensures.value ∙ ap (λ t. got t c.read_string.new.cursor.rest) (sym c.in_ok-kept.ensures.same)) (returns-clause-slice c source);
   fault = search rules;
 }
 
 pub returns-clause-turns : goal.returns-clause-turns
-returns-clause-turns c = leaf_read 2 (omega arith) c.args.cursor.now c.read_string.new.cursor _ c.in_ok-text.ensures.turns.moved (string_nears _ c.args.cursor.now c.read_string.new.cursor c.in_ok-text.ensures.value)
+returns-clause-turns c = leaf_read 2 (omega arith) c.args.cursor.now c.read_string.new.cursor _ c.in_ok-text.ensures.turns.moved
+    (string_nears _ c.args.cursor.now c.read_string.new.cursor c.in_ok-text.ensures.value)

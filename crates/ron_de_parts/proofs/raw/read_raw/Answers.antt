@@ -13,7 +13,8 @@ use Rattle.ron_de_parts.proofs.raw.read_raw.Goals as goal
 pub returns-in_err-raw-clause-value : goal.returns-in_err-raw-clause-value
 returns-in_err-raw-clause-value c =
     let p = err_from_is_err_and c.from_residual.result c.from_residual.ensures.1 in
-    let h = subst (λ (x : Conditions). ReadsRaw x c.args.is_at_start c.args.cursor.now (Err c.in_err-raw.field-0.0) c.read_raw.new.cursor.rest) c.reading.ensures c.in_err-raw.ensures.value in
+    let h = subst (λ (x : Conditions). ReadsRaw x c.args.is_at_start c.args.cursor.now (Err c.in_err-raw.field-0.0) c.read_raw.new.cursor.rest)
+    c.reading.ensures c.in_err-raw.ensures.value in
     rw (p.1, p.2) (λ i is room r. raw_fault c.args.is_at_start c.args.context.now i is.0 c.args.cursor.now room r _ c.read_raw.new.cursor.rest h)
 
 -- ---- what was read isn't kept, for want of memory
@@ -32,8 +33,10 @@ returns-in_err-kept-clause-turns c =
 
 pub returns-clause-value : goal.returns-clause-value
 returns-clause-value c =
-    let h = subst (λ (x : Conditions). ReadsRaw x c.args.is_at_start c.args.cursor.now (Ok (c.in_ok-raw.raw, c.in_ok-raw.start)) c.read_raw.new.cursor.rest) c.reading.ensures c.in_ok-raw.ensures.value in
-    λ i is room r. raw_read c.args.is_at_start c.args.context.now i is.0 c.args.cursor.now room r (c.in_ok-raw.raw, c.in_ok-raw.start) c.in_ok-kept.kept c.read_raw.new.cursor.rest c.in_ok-kept.ensures.same h
+    let h = subst (λ (x : Conditions). ReadsRaw x c.args.is_at_start c.args.cursor.now (Ok (c.in_ok-raw.raw, c.in_ok-raw.start)) c.read_raw.new.cursor.rest)
+    c.reading.ensures c.in_ok-raw.ensures.value in
+    λ i is room r. raw_read c.args.is_at_start c.args.context.now i is.0 c.args.cursor.now room r (c.in_ok-raw.raw, c.in_ok-raw.start) c.in_ok-kept.kept
+    c.read_raw.new.cursor.rest c.in_ok-kept.ensures.same h
 
 pub returns-clause-slice : goal.returns-clause-slice
 returns-clause-slice c source =
@@ -48,7 +51,8 @@ returns-clause-advance c =
     record {
       text = a.text;
       no_longer = a.no_longer;
-      holds = λ source. sliced-raw _ _ kept (chars c.in_ok-raw.start.now) a.holds.rest a.holds.end (a.holds.split ∙ ap (λ s. s ++ a.holds.rest) (sym c.in_ok-kept.ensures.same)) (returns-clause-slice c source);
+      holds = λ source. sliced-raw _ _ kept (chars c.in_ok-raw.start.now) a.holds.rest a.holds.end
+          (a.holds.split ∙ ap (λ s. s ++ a.holds.rest) (sym c.in_ok-kept.ensures.same)) (returns-clause-slice c source);
       fault = search rules;
     }
 

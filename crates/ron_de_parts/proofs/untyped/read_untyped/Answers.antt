@@ -11,7 +11,8 @@ returns-in_err-value-clause-value c =
     rw (p.1, p.2) (λ i is room r. untyped_fault c.args.context.now i is.0 c.args.cursor.now room r _ c.read_within.new.cursor.rest c.in_err-value.ensures.value)
 
 pub returns-clause-value : goal.returns-clause-value
-returns-clause-value c = λ i is room r. untyped_read c.args.context.now i is.0 c.args.cursor.now room r c.in_ok-value.value c.read_within.new.cursor.rest c.in_ok-value.ensures.value
+returns-clause-value c =
+    λ i is room r. untyped_read c.args.context.now i is.0 c.args.cursor.now room r c.in_ok-value.value c.read_within.new.cursor.rest c.in_ok-value.ensures.value
 
 pub returns-clause-advance : goal.returns-clause-advance
 returns-clause-advance c = record { text = search rules; no_longer = search rules; holds = sliced-value _ _ (Owned c.in_ok-value.value); fault = search rules }

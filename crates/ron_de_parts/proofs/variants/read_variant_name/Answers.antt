@@ -5,7 +5,8 @@ use Rattle.ron_de_steps.proofs.NearLemmas.{name_nears}
 use Rattle.ron_de_parts.proofs.variants.read_variant_name.Goals as goal
 
 pub returns-in_default-clause-value : goal.returns-in_default-clause-value
-returns-in_default-clause-value c = text_and _ c.in_ok-unknown_variant.ensures.0 (no_variant _ _ _ c.args.variants.now c.in-Ok.ensures.value c.in_default.ensures)
+returns-in_default-clause-value c =
+    text_and _ c.in_ok-unknown_variant.ensures.0 (no_variant _ _ _ c.args.variants.now c.in-Ok.ensures.value c.in_default.ensures)
 
 pub returns-clause-value : goal.returns-clause-value
 returns-clause-value c = named_variant _ _ _ c.args.variants.now c.in-Some.index c.in-Ok.ensures.value c.in-Some.ensures

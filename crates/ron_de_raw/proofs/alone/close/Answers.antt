@@ -14,4 +14,5 @@ returns-in_err-pass_gap-clause-value c =
 pub returns-in-Some-clause-ends : goal.returns-in-Some-clause-ends
 returns-in-Some-clause-ends c =
     let start : Text = c.args.cursor.now.rest in
-    c.in_ok-pass_gap.ensures.rest ∙ ap skip c.add_turns.ensures.place.rest ∙ closes_at_end start _ (ap (λ (s : Text). skip (s ++ 44 ∷ [])) (sym c.rest-behind.ensures.rest) ∙ c.in-Some.ensures) (sym c.is_ended.ensures ∙ c.if-is_ended.true)
+    c.in_ok-pass_gap.ensures.rest ∙ ap skip c.add_turns.ensures.place.rest ∙ closes_at_end start _
+    (ap (λ (s : Text). skip (s ++ 44 ∷ [])) (sym c.rest-behind.ensures.rest) ∙ c.in-Some.ensures) (sym c.is_ended.ensures ∙ c.if-is_ended.true)

@@ -25,7 +25,10 @@ pub returns-in_err-pass_value-clause-value : goal.returns-in_err-pass_value-clau
 returns-in_err-pass_value-clause-value c =
     let p = err_from_is_err_and c.from_residual-in_err-pass_value.result c.from_residual-in_err-pass_value.ensures.1 in
     let g = c.in_ok-pass_gap.ensures in
-    rw (p.1, p.2) (refused_alone _ _ _ (λ f k. fault_alone c.args.cursor.now.rest _ _ g.slash g.gap g.rest f k) c.in_err-pass_value.ensures.value, inr c.in_err-pass_value.ensures.fault)
+    rw (p.1, p.2) (
+      refused_alone _ _ _ (λ f k. fault_alone c.args.cursor.now.rest _ _ g.slash g.gap g.rest f k) c.in_err-pass_value.ensures.value,
+      inr c.in_err-pass_value.ensures.fault,
+    )
 
 pub returns-clause-value : goal.returns-clause-value
 returns-clause-value c =
@@ -51,4 +54,5 @@ returns-in_err-pass_value-clause-turns c =
 pub returns-clause-turns : goal.returns-clause-turns
 returns-clause-turns c =
     let g = c.in_ok-pass_gap.ensures in
-    alone_closed c.args.cursor.now c.pass_gap.new.cursor g.text g.turns.moved g.gap g.rest _ _ c.pass_value.new.cursor c.close.new.cursor c.in_ok-pass_value.ensures.turns c.in_ok-pass_value.ensures.stretch c.close.ensures.turns
+    alone_closed c.args.cursor.now c.pass_gap.new.cursor g.text g.turns.moved g.gap g.rest _ _ c.pass_value.new.cursor c.close.new.cursor
+    c.in_ok-pass_value.ensures.turns c.in_ok-pass_value.ensures.stretch c.close.ensures.turns

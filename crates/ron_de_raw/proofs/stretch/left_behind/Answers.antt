@@ -9,7 +9,8 @@ returns-then-leaves_open c =
     let gap = chars c.args.gap.now in
     let white = chars c.trailing_white-white.result.now in
     let front = append_cancel_right (trim_back gap) (chars c.before-2.result.now) white (sym c.trailing_white-white.ensures ∙ c.before-2.ensures) in
-    line_left gap white c.trailing_white-white.ensures (ap leaves_open front ∙ sym c.leaves_open.ensures ∙ c.if-leaves_open.true) ∙ ap (λ r. kept gap ++ r) (sym c.skip_line.ensures.value)
+    line_left gap white c.trailing_white-white.ensures (ap leaves_open front ∙ sym c.leaves_open.ensures ∙ c.if-leaves_open.true)
+    ∙ ap (λ r. kept gap ++ r) (sym c.skip_line.ensures.value)
 
 pub returns-else-leaves_open : goal.returns-else-leaves_open
 returns-else-leaves_open c =

@@ -6,7 +6,8 @@ use Rattle.ron_de_raw.proofs.StretchLemmas.{front_trimmed}
 use Rattle.ron_de_raw.proofs.stretch.raw_start.Goals as goal
 
 pub rest_behind-requires-2 : goal.rest_behind-requires-2
-rest_behind-requires-2 c = subst (IsSuffix (chars c.skip_run.result.now)) (c.gap-gap.ensures.gap ∙ sym c.add_turns.ensures.place.gap) (front_trimmed _ _ c.skip_run.ensures.value)
+rest_behind-requires-2 c =
+    subst (IsSuffix (chars c.skip_run.result.now)) (c.gap-gap.ensures.gap ∙ sym c.add_turns.ensures.place.gap) (front_trimmed _ _ c.skip_run.ensures.value)
 
 pub returns-clause-end : goal.returns-clause-end
 returns-clause-end c =

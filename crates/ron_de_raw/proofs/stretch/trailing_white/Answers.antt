@@ -6,7 +6,8 @@ pub loop-first-init : goal.loop-first-init
 loop-first-init c = (search rules, search rules, none_seen _)
 
 pub loop-first-preserved-then-not-is_whitespace : goal.loop-first-preserved-then-not-is_whitespace
-loop-first-preserved-then-not-is_whitespace c = (search rules, search rules, mark_seen _ _ _ _ c.in-Some.first c.loop-first.invariant.2 c.in-Some.ensures.chars (search rules))
+loop-first-preserved-then-not-is_whitespace c =
+    (search rules, search rules, mark_seen _ _ _ _ c.in-Some.first c.loop-first.invariant.2 c.in-Some.ensures.chars (search rules))
 
 pub loop-first-preserved : goal.loop-first-preserved
 loop-first-preserved c = (search rules, search rules, white_more _ _ _ _ c.in-Some.first c.loop-first.invariant.2 c.in-Some.ensures.chars (search rules))

@@ -6,7 +6,8 @@ use Rattle.ron_de_untyped.proofs.CountLemmas.{settled_so, scan_settled}
 use Rattle.ron_de_untyped.proofs.entries.read_name.Goals as goal
 
 pub returns-in-Ok-clause-turns : goal.returns-in-Ok-clause-turns
-returns-in-Ok-clause-turns c = settled_so {E = Error} 1 c.args.cursor.now c.identifier.new.self c.text_value.result (omega arith) c.in-Ok.ensures.turns.moved (name_nears _ c.args.cursor.now c.identifier.new.self c.in-Ok.ensures.value)
+returns-in-Ok-clause-turns c = settled_so {E = Error} 1 c.args.cursor.now c.identifier.new.self c.text_value.result (omega arith) c.in-Ok.ensures.turns.moved
+    (name_nears _ c.args.cursor.now c.identifier.new.self c.in-Ok.ensures.value)
 
 pub returns-in_err-identifier_error-in-Err-clause-turns : goal.returns-in_err-identifier_error-in-Err-clause-turns
 returns-in_err-identifier_error-in-Err-clause-turns c =

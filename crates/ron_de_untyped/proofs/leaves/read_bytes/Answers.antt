@@ -12,7 +12,9 @@ returns-in_err-bytes-clause-turns c =
     rw (p.1, p.2) (scan_settled 2 c.args.cursor.now c.read_byte_string.new.cursor _ (omega arith) c.in_err-bytes.ensures.turns.most)
 
 pub returns-in-Slice-clause-turns : goal.returns-in-Slice-clause-turns
-returns-in-Slice-clause-turns c = settled_so {E = Error} 2 c.args.cursor.now c.read_byte_string.new.cursor c.bytes.result (omega arith) c.in_ok-bytes.ensures.turns.moved (byte_string_nears _ c.args.cursor.now c.read_byte_string.new.cursor c.in_ok-bytes.ensures.value)
+returns-in-Slice-clause-turns c = settled_so {E = Error} 2 c.args.cursor.now c.read_byte_string.new.cursor c.bytes.result (omega arith)
+    c.in_ok-bytes.ensures.turns.moved (byte_string_nears _ c.args.cursor.now c.read_byte_string.new.cursor c.in_ok-bytes.ensures.value)
 
 pub returns-in-Allocated-clause-turns : goal.returns-in-Allocated-clause-turns
-returns-in-Allocated-clause-turns c = settled_so {E = Error} 2 c.args.cursor.now c.read_byte_string.new.cursor (Ok (held.Bytes c.in-Allocated.bytes)) (omega arith) c.in_ok-bytes.ensures.turns.moved (byte_string_nears _ c.args.cursor.now c.read_byte_string.new.cursor c.in_ok-bytes.ensures.value)
+returns-in-Allocated-clause-turns c = settled_so {E = Error} 2 c.args.cursor.now c.read_byte_string.new.cursor (Ok (held.Bytes c.in-Allocated.bytes))
+    (omega arith) c.in_ok-bytes.ensures.turns.moved (byte_string_nears _ c.args.cursor.now c.read_byte_string.new.cursor c.in_ok-bytes.ensures.value)

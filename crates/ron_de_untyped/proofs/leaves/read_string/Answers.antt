@@ -25,7 +25,9 @@ returns-in_err-text-clause-turns c =
     rw (p.1, p.2) (scan_settled 2 c.args.cursor.now c.read_string.new.cursor _ (omega arith) c.in_err-text.ensures.turns.most)
 
 pub returns-in-Slice-clause-turns : goal.returns-in-Slice-clause-turns
-returns-in-Slice-clause-turns c = settled_so {E = Error} 2 c.args.cursor.now c.read_string.new.cursor c.text_value.result (omega arith) c.in_ok-text.ensures.turns.moved (string_nears _ c.args.cursor.now c.read_string.new.cursor c.in_ok-text.ensures.value)
+returns-in-Slice-clause-turns c = settled_so {E = Error} 2 c.args.cursor.now c.read_string.new.cursor c.text_value.result (omega arith)
+    c.in_ok-text.ensures.turns.moved (string_nears _ c.args.cursor.now c.read_string.new.cursor c.in_ok-text.ensures.value)
 
 pub returns-in-Allocated-clause-turns : goal.returns-in-Allocated-clause-turns
-returns-in-Allocated-clause-turns c = settled_so {E = Error} 2 c.args.cursor.now c.read_string.new.cursor (Ok (held.String c.in-Allocated.text)) (omega arith) c.in_ok-text.ensures.turns.moved (string_nears _ c.args.cursor.now c.read_string.new.cursor c.in_ok-text.ensures.value)
+returns-in-Allocated-clause-turns c = settled_so {E = Error} 2 c.args.cursor.now c.read_string.new.cursor (Ok (held.String c.in-Allocated.text)) (omega arith)
+    c.in_ok-text.ensures.turns.moved (string_nears _ c.args.cursor.now c.read_string.new.cursor c.in_ok-text.ensures.value)

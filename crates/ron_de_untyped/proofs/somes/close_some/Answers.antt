@@ -16,7 +16,9 @@ returns-in_err-pass_close-clause-turns c =
     rw (p.1, p.2) (behind_open c.args.cursor.now c.pass_close.new.cursor _ c.in_err-pass_close.ensures.turns.most)
 
 pub returns-clause-value : goal.returns-clause-value
-returns-clause-value c = closed_made (tree_of c.args.held) c.args.cursor.now.rest _ c.option.result c.pass_close.new.cursor.rest c.in_ok-pass_close.ensures.value c.option.ensures
+returns-clause-value c =
+    closed_made (tree_of c.args.held) c.args.cursor.now.rest _ c.option.result c.pass_close.new.cursor.rest c.in_ok-pass_close.ensures.value c.option.ensures
 
 pub returns-clause-turns : goal.returns-clause-turns
-returns-clause-turns c = behind_so c.args.cursor.now c.pass_close.new.cursor c.option.result c.in_ok-pass_close.ensures.turns.moved (past_close_nears 41 c.args.cursor.now c.pass_close.new.cursor mark_right_parenthesis c.in_ok-pass_close.ensures.value)
+returns-clause-turns c = behind_so c.args.cursor.now c.pass_close.new.cursor c.option.result c.in_ok-pass_close.ensures.turns.moved
+    (past_close_nears 41 c.args.cursor.now c.pass_close.new.cursor mark_right_parenthesis c.in_ok-pass_close.ensures.value)

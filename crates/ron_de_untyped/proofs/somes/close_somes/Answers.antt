@@ -7,7 +7,8 @@ pub somes-init : goal.somes-init
 somes-init c = out_begin c.args.depth c.args.cursor.now c.args.held c.requires
 
 pub somes-preserved : goal.somes-preserved
-somes-preserved c = out_on c.somes.invariant c.somes-test.true _ c.close_within.new.cursor c.in_ok-held.ensures.value c.in_ok-held.ensures.advance.text c.in_ok-held.ensures.advance.no_longer c.in_ok-held.ensures.grows c.in_ok-held.ensures.advance.holds c.in_ok-held.ensures.turns
+somes-preserved c = out_on c.somes.invariant c.somes-test.true _ c.close_within.new.cursor c.in_ok-held.ensures.value c.in_ok-held.ensures.advance.text
+    c.in_ok-held.ensures.advance.no_longer c.in_ok-held.ensures.grows c.in_ok-held.ensures.advance.holds c.in_ok-held.ensures.turns
 
 pub returns-in_err-held-clause-value : goal.returns-in_err-held-clause-value
 returns-in_err-held-clause-value c =
@@ -23,4 +24,5 @@ pub returns-clause-value : goal.returns-clause-value
 returns-clause-value c = out_end c.somes.invariant c.somes-test.false c.close_some.result c.close_some.new.cursor.rest c.close_some.ensures.value
 
 pub returns-clause-turns : goal.returns-clause-turns
-returns-clause-turns c = behind_then c.args.cursor.now c.somes.cursor c.close_some.new.cursor c.somes.held c.close_some.result c.somes.invariant.turns c.close_some.ensures.turns
+returns-clause-turns c =
+    behind_then c.args.cursor.now c.somes.cursor c.close_some.new.cursor c.somes.held c.close_some.result c.somes.invariant.turns c.close_some.ensures.turns

@@ -15,6 +15,10 @@ returns c =
       first = c.in-Ok.ensures.ok;
       text = c.in_ok-written.ensures.text;
       again = λ told ends.
-          let z = c.in_ok-written.ensures.reads_back told ends table c.args.schema.now.well_formed c.in-Ok.ensures.of_schema in
-          (z.0, z.1, subst (DocumentWithin c.args.options.now.default_extensions limit table (chars (string_bytes c.in_ok-written.written))) (sym (only.by_schema _ _ z.2)) ok);
+          let z = c.in_ok-written.ensures.reads_back told ends table c.args.schema.now.well_formed c.in-Ok.ensures.of_schema in (
+            z.0,
+            z.1,
+            subst (DocumentWithin c.args.options.now.default_extensions limit table (chars (string_bytes c.in_ok-written.written)))
+                (sym (only.by_schema _ _ z.2)) ok,
+          );
     }

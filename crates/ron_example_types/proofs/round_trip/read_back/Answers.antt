@@ -8,7 +8,8 @@ use Rattle.ron_example_types.proofs.RoundTripLemmas.{refused_text, refused_readi
 use Rattle.ron_example_types.proofs.round_trip.read_back.Goals as goal
 
 pub returns-in-Err : goal.returns-in-Err
-returns-in-Err c = refused_text c.args.options.now.default_extensions c.args.options.now.recursion_limit (table_of c.args.schema.now) (chars c.args.text.now) c.in-Err.refused c.in-Err.ensures.err
+returns-in-Err c = refused_text c.args.options.now.default_extensions c.args.options.now.recursion_limit (table_of c.args.schema.now) (chars c.args.text.now)
+    c.in-Err.refused c.in-Err.ensures.err
 
 pub returns : goal.returns
 returns c =
@@ -21,8 +22,12 @@ returns c =
       first = c.in-Ok.ensures.ok;
       text = c.in_ok-written.ensures.text;
       again = λ told.
-          let z = c.in_ok-written.ensures.reads_back told (inl refl) table c.args.schema.now.well_formed c.in-Ok.ensures.of_schema in
-          (z.0, z.1, subst (DocumentWithin c.args.options.now.default_extensions limit table (chars (string_bytes c.in_ok-written.written))) (sym (only.by_schema _ _ z.2)) ok);
+          let z = c.in_ok-written.ensures.reads_back told (inl refl) table c.args.schema.now.well_formed c.in-Ok.ensures.of_schema in (
+            z.0,
+            z.1,
+            subst (DocumentWithin c.args.options.now.default_extensions limit table (chars (string_bytes c.in_ok-written.written)))
+                (sym (only.by_schema _ _ z.2)) ok,
+          );
     }
 
 pub returns-in-Err-from_str_seed : goal.returns-in-Err-from_str_seed
@@ -39,10 +44,16 @@ returns-in-Err-from_str_seed c =
       c.in-Ok.ensures.ok,
       λ told.
           let z = c.in_ok-written.ensures.reads_back told (inl refl) table c.args.schema.now.well_formed of_schema in
-          refused_reading c.args.options.now.default_extensions c.args.options.now.recursion_limit table d (chars (string_bytes c.in_ok-written.written)) z.0 c.in-Err-from_str_seed.unread is z.2 err deep (back no_config _ refl (inl refl) of_schema told c.in_ok-written.ensures.names is),
+          refused_reading c.args.options.now.default_extensions c.args.options.now.recursion_limit table d (chars (string_bytes c.in_ok-written.written)) z.0
+          c.in-Err-from_str_seed.unread is z.2 err deep (back no_config _ refl (inl refl) of_schema told c.in_ok-written.ensures.names is),
     ))
 
 pub returns-in_err-written : goal.returns-in_err-written
 returns-in_err-written c =
     let p = err_from_is_err_and c.from_residual.result c.from_residual.ensures.1 in
-    rw (p.1, p.2) (inr (inr (data_view c.in-Ok.data, c.in-Ok.ensures.ok, λ told. refused_writing c.args.options.now.default_extensions c.args.options.now.recursion_limit (table_of c.args.schema.now) (data_view c.in-Ok.data) _ c.in_err-written.ensures.refused c.in_err-written.ensures.refused_name)))
+    rw (p.1, p.2) (inr (inr (
+      data_view c.in-Ok.data,
+      c.in-Ok.ensures.ok,
+      λ told. refused_writing c.args.options.now.default_extensions c.args.options.now.recursion_limit (table_of c.args.schema.now) (data_view c.in-Ok.data) _
+          c.in_err-written.ensures.refused c.in_err-written.ensures.refused_name,
+    )))

@@ -9,6 +9,7 @@ loop-after-preserved c =
     let shorter : length c.skip_blanks-rest-in-Some.result.now ≤ length c.args.text.now =
     omega (arith, before, c.in-Some.ensures.shorter, c.skip_blanks-rest-in-Some.ensures.shorter)
     in
-    let later = comment_later (chars c.loop-after.rest.now) c.in-Some.field-0-0 (chars c.in-Some.after.now) c.in-Some.ensures.chars c.in_default-skip_comment.ensures.value in
+    let later = comment_later (chars c.loop-after.rest.now) c.in-Some.field-0-0 (chars c.in-Some.after.now) c.in-Some.ensures.chars
+    c.in_default-skip_comment.ensures.value in
     let gone = blanks_gone (chars c.in-Some.after.now) (chars c.skip_blanks-rest-in-Some.result.now) c.skip_blanks-rest-in-Some.ensures.value in
     (u, shorter, gone ∙ later ∙ c.loop-after.invariant.2)

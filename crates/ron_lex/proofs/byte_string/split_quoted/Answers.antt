@@ -12,29 +12,34 @@ pub before-requires : goal.before-requires
 before-requires c = run_end _ _ _ c.plain-end.ensures.value
 
 pub returns-in-Some-clause-value : goal.returns-in-Some-clause-value
-returns-in-Some-clause-value c = rw c.as_bytes.ensures.value (content_plain bytes_are (chars c.args.text.now) _ _ _ _ (utf8_given c.before-in-Some.result.now c.before-in-Some.utf8) c.plain-end.ensures.value c.before-in-Some.ensures c.in-Some.ensures)
+returns-in-Some-clause-value c = rw c.as_bytes.ensures.value (content_plain bytes_are (chars c.args.text.now) _ _ _ _
+    (utf8_given c.before-in-Some.result.now c.before-in-Some.utf8) c.plain-end.ensures.value c.before-in-Some.ensures c.in-Some.ensures)
 
 pub returns-then-is_ended-clause-value : goal.returns-then-is_ended-clause-value
 returns-then-is_ended-clause-value c =
-    failed_err parsed_bytes c.into.result _ (content_endless bytes_are (chars c.args.text.now) _ c.plain-end.ensures.value (ap is_ended (sym c.quote-quote.ensures.value) ∙ sym c.is_ended.ensures ∙ c.if-is_ended.true))
+    failed_err parsed_bytes c.into.result _ (content_endless bytes_are (chars c.args.text.now) _ c.plain-end.ensures.value
+    (ap is_ended (sym c.quote-quote.ensures.value) ∙ sym c.is_ended.ensures ∙ c.if-is_ended.true))
 
 pub returns-in_err-content-clause-memory : goal.returns-in_err-content-clause-memory
 returns-in_err-content-clause-memory c =
-    refusal_because _ _ (quote_or_escape (chars c.args.text.now) _ c.plain-end.ensures.value c.in_default.ensures (ap is_ended (sym c.quote-quote.ensures.value) ∙ sym c.is_ended.ensures ∙ c.if-is_ended.false))
+    refusal_because _ _ (quote_or_escape (chars c.args.text.now) _ c.plain-end.ensures.value c.in_default.ensures
+    (ap is_ended (sym c.quote-quote.ensures.value) ∙ sym c.is_ended.ensures ∙ c.if-is_ended.false))
 
 pub returns-in-Some-clause-covered : goal.returns-in-Some-clause-covered
 returns-in-Some-clause-covered c = slice_covered _ _ _ _ _ _ c.plain-end.ensures.value c.in-Some.ensures c.plain-end.ensures.covers c.pass.ensures
 
 pub returns-clause-covered : goal.returns-clause-covered
 returns-clause-covered c =
-    escaped_covered _ _ _ _ _ _ _ _ c.plain-end.ensures.value c.quote-quote.ensures.value c.in_ok-content.ensures.closed c.plain-end.ensures.covers c.quote-quote.ensures.covers c.in_ok-content.ensures.covered
+    escaped_covered _ _ _ _ _ _ _ _ c.plain-end.ensures.value c.quote-quote.ensures.value c.in_ok-content.ensures.closed c.plain-end.ensures.covers
+    c.quote-quote.ensures.covers c.in_ok-content.ensures.covered
 
 pub returns-in-Some-clause-least : goal.returns-in-Some-clause-least
 returns-in-Some-clause-least c = slice_gains _ _ _ _ _ _ c.plain-end.ensures.value c.in-Some.ensures c.plain-end.ensures.covers c.pass.ensures
 
 pub returns-clause-least : goal.returns-clause-least
 returns-clause-least c =
-    escaped_gains _ _ _ _ _ _ _ _ c.plain-end.ensures.value c.in_default.ensures c.quote-quote.ensures.value c.plain-end.ensures.covers c.quote-quote.ensures.covers c.in_ok-content.ensures.least
+    escaped_gains _ _ _ _ _ _ _ _ c.plain-end.ensures.value c.in_default.ensures c.quote-quote.ensures.value c.plain-end.ensures.covers
+    c.quote-quote.ensures.covers c.in_ok-content.ensures.least
 
 pub pass-requires : goal.pass-requires
 pass-requires c = run_end _ _ _ c.plain-end.ensures.value

@@ -20,7 +20,8 @@ loop-place-init g c = (
   end_whole _,
   rw c.requires (after-run plain (chars c.args.text.now)),
   (omega arith, omega arith),
-  content_starts g.C.Content.is_content (chars c.args.text.now) (chars c.before-2.result.now) _ _ _ (g.C.Content.made c.in_ok-content.content) refl c.requires c.before-2.ensures c.in_ok-push_plain.ensures c.in_ok-content.ensures,
+  content_starts g.C.Content.is_content (chars c.args.text.now) (chars c.before-2.result.now) _ _ _ (g.C.Content.made c.in_ok-content.content) refl c.requires
+      c.before-2.ensures c.in_ok-push_plain.ensures c.in_ok-content.ensures,
 )
 
 pub returns-in_err-given-clause-err_end : goal.returns-in_err-given-clause-err_end
@@ -33,14 +34,21 @@ before-requires-in-loop-place g c = run_end _ _ _ c.plain-rest.ensures.value
 pub loop-place-smaller : goal.loop-place-smaller
 loop-place-smaller g c =
     let here = stripped 92 (chars c.loop-place.rest.now) _ c.strip_char.ensures (sym c.is_some.ensures ∙ c.loop-place-test.true) in
-    omega (arith, ap length c.plain-rest.ensures.value, run_most plain (chars c.in_ok-given.after.now), piece_shorter g.C.Content.is_content (chars c.loop-place.rest.now) (chars c.in_ok-given.after.now) (g.C.Content.piece c.in_ok-given.given) here c.in_ok-given.ensures.value)
+    omega (
+      arith,
+      ap length c.plain-rest.ensures.value,
+      run_most plain (chars c.in_ok-given.after.now),
+      piece_shorter g.C.Content.is_content (chars c.loop-place.rest.now) (chars c.in_ok-given.after.now) (g.C.Content.piece c.in_ok-given.given) here
+          c.in_ok-given.ensures.value,
+    )
 
 pub loop-place-preserved : goal.loop-place-preserved
 loop-place-preserved g c =
     let here = stripped 92 (chars c.loop-place.rest.now) _ c.strip_char.ensures (sym c.is_some.ensures ∙ c.loop-place-test.true) in
     let past = end_of_end _ _ _ (piece_end g.C.Content.is_content _ _ _ here c.in_ok-given.ensures.value) c.loop-place.invariant.2 in
     let run = c.plain-rest.ensures.value in
-    let made = c.in_ok-push_plain-2.ensures ∙ ap (λ x. x ++ flat_map g.C.Content.gives (chars c.before-in-loop-place.result.now)) c.in_ok-push_given.ensures ∙ append_assoc (g.C.Content.made c.loop-place.content) (g.C.Content.piece c.in_ok-given.given) _ in (
+    let made = c.in_ok-push_plain-2.ensures ∙ ap (λ x. x ++ flat_map g.C.Content.gives (chars c.before-in-loop-place.result.now)) c.in_ok-push_given.ensures
+    ∙ append_assoc (g.C.Content.made c.loop-place.content) (g.C.Content.piece c.in_ok-given.given) _ in (
       c.plain-rest.utf8,
       search rules,
       end_of_end _ _ _ (run_end _ _ _ run) past,
@@ -50,13 +58,16 @@ loop-place-preserved g c =
         omega (arith, c.loop-place.invariant.5.0, c.pass.ensures.most, c.plain-rest.ensures.covers.most),
         gains_on _ _ _ _ _ _ (gains_on _ _ _ _ _ _ c.loop-place.invariant.5.1 c.pass.ensures) c.plain-rest.ensures.covers,
       ),
-      content_turns g.C.Content.is_content (chars c.args.text.now) (chars c.loop-place.rest.now) (chars c.in_ok-given.after.now) _ _ (chars c.plain-rest.result.now) _ _ (g.C.Content.piece c.in_ok-given.given) refl c.loop-place.invariant.6 here c.in_ok-given.ensures.value run c.before-in-loop-place.ensures made,
+      content_turns g.C.Content.is_content (chars c.args.text.now) (chars c.loop-place.rest.now) (chars c.in_ok-given.after.now) _ _
+          (chars c.plain-rest.result.now) _ _ (g.C.Content.piece c.in_ok-given.given) refl c.loop-place.invariant.6 here c.in_ok-given.ensures.value run
+          c.before-in-loop-place.ensures made,
     )
 
 pub returns-in_err-given-clause-value : goal.returns-in_err-given-clause-value
 returns-in_err-given-clause-value g c =
     let here = stripped 92 (chars c.loop-place.rest.now) _ c.strip_char.ensures (sym c.is_some.ensures ∙ c.loop-place-test.true) in
-    failed_refusal _ _ _ c.from_residual-in_err-given.ensures.0 (content_refused g.C.Content.is_content (chars c.args.text.now) (chars c.loop-place.rest.now) _ c.loop-place.invariant.6 here c.in_err-given.ensures.value)
+    failed_refusal _ _ _ c.from_residual-in_err-given.ensures.0
+    (content_refused g.C.Content.is_content (chars c.args.text.now) (chars c.loop-place.rest.now) _ c.loop-place.invariant.6 here c.in_err-given.ensures.value)
 
 pub returns-in-Some-clause-value : goal.returns-in-Some-clause-value
 returns-in-Some-clause-value g c = content_closed g.C.Content.is_content _ _ _ _ c.loop-place.invariant.6 c.in-Some.ensures
@@ -64,11 +75,13 @@ returns-in-Some-clause-value g c = content_closed g.C.Content.is_content _ _ _ _
 pub returns-clause-value : goal.returns-clause-value
 returns-clause-value g c =
     let no_escape = not_stripped 92 (chars c.loop-place.rest.now) _ c.strip_char.ensures (sym c.is_some.ensures ∙ c.loop-place-test.false) in
-    failed_err g.C.Content.made c.into.result _ (content_unclosed g.C.Content.is_content (chars c.args.text.now) (chars c.loop-place.rest.now) _ c.loop-place.invariant.6 c.loop-place.invariant.4 no_escape c.in-None.ensures)
+    failed_err g.C.Content.made c.into.result _ (content_unclosed g.C.Content.is_content (chars c.args.text.now) (chars c.loop-place.rest.now) _
+    c.loop-place.invariant.6 c.loop-place.invariant.4 no_escape c.in-None.ensures)
 
 pub pass-requires : goal.pass-requires
 pass-requires g c =
-    piece_end g.C.Content.is_content _ _ _ (stripped 92 (chars c.loop-place.rest.now) _ c.strip_char.ensures (sym c.is_some.ensures ∙ c.loop-place-test.true)) c.in_ok-given.ensures.value
+    piece_end g.C.Content.is_content _ _ _ (stripped 92 (chars c.loop-place.rest.now) _ c.strip_char.ensures (sym c.is_some.ensures ∙ c.loop-place-test.true))
+    c.in_ok-given.ensures.value
 
 pub returns-in-Some-clause-covered : goal.returns-in-Some-clause-covered
 returns-in-Some-clause-covered g c = omega (arith, c.loop-place.invariant.5.0, ap bytes_in c.in-Some.ensures, size_one 34 (chars c.in-Some.behind.now))

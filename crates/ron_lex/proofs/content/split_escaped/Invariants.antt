@@ -13,7 +13,8 @@ use Rattle.ron_lex.proofs.content.split_escaped.Given as goal
 -- what the pieces from here on give stands behind what was read, and what was read is gone over once, and no less
 abbrev pub invariant-loop-place : goal.invariant-loop-place
 invariant-loop-place g l =
-    shadow (Utf8 l.rest) × shadow (Utf8 l.place) × IsSuffix (chars l.rest) (chars l.text) × IsSuffix (chars l.place) (chars l.text) × (begins plain (chars l.rest) ≡ false)
+    shadow (Utf8 l.rest) × shadow (Utf8 l.place) × IsSuffix (chars l.rest) (chars l.text) × IsSuffix (chars l.place) (chars l.text)
+    × (begins plain (chars l.rest) ≡ false)
     × (CoversAtMost 1 l.fn.searches.covered (chars l.escape) (chars l.rest) l.searches.covered
     × Gains (passed (chars l.escape) (chars l.rest)) l.fn.searches.covered l.searches.covered)
     × (g.C.Content.content (chars l.text) ≡ meant (g.C.Content.content (chars l.rest)) (append (g.C.Content.made l.content)))

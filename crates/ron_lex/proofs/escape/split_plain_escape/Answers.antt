@@ -19,4 +19,5 @@ pub returns-in-None-clause-value : goal.returns-in-None-clause-value
 returns-in-None-clause-value c = plain_unknown _ _ _ _ c.in-Some.ensures c.in-Some-split_first.ensures.chars c.in-None.ensures.value
 
 pub returns-in-None-clause-err_end : goal.returns-in-None-clause-err_end
-returns-in-None-clause-err_end c = rw c.escape-in-None.ensures.rest (end_past_char _ _ _ _ c.in-Some.ensures (end_behind_char _ _ _ c.in-Some-split_first.ensures.chars))
+returns-in-None-clause-err_end c =
+    rw c.escape-in-None.ensures.rest (end_past_char _ _ _ _ c.in-Some.ensures (end_behind_char _ _ _ c.in-Some-split_first.ensures.chars))

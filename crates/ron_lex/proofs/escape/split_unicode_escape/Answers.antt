@@ -10,15 +10,18 @@ returns-in_default-clause-value c = unicode_none (chars c.args.text.now) c.in_de
 
 pub returns-in_default-strip_char-clause-value : goal.returns-in_default-strip_char-clause-value
 unfolding literals
-returns-in_default-strip_char-clause-value c = unicode_unbraced (chars c.args.text.now) (chars c.in-Some.marked.now) c.in-Some.ensures c.in_default-strip_char.ensures
+returns-in_default-strip_char-clause-value c =
+    unicode_unbraced (chars c.args.text.now) (chars c.in-Some.marked.now) c.in-Some.ensures c.in_default-strip_char.ensures
 
 pub returns-in_default-strip_char-clause-err_end : goal.returns-in_default-strip_char-clause-err_end
 unfolding literals
-returns-in_default-strip_char-clause-err_end c = rw c.escape-in_default-strip_char.ensures.rest (end_behind_two 92 117 _ (chars c.in-Some.marked.now) c.in-Some.ensures)
+returns-in_default-strip_char-clause-err_end c =
+    rw c.escape-in_default-strip_char.ensures.rest (end_behind_two 92 117 _ (chars c.in-Some.marked.now) c.in-Some.ensures)
 
 pub returns-clause-value : goal.returns-clause-value
 unfolding literals
-returns-clause-value c = rw (unicode_braced (chars c.args.text.now) (chars c.in-Some.marked.now) _ c.in-Some.ensures c.in-Some-strip_char.ensures) c.split_braced.ensures.value
+returns-clause-value c =
+    rw (unicode_braced (chars c.args.text.now) (chars c.in-Some.marked.now) _ c.in-Some.ensures c.in-Some-strip_char.ensures) c.split_braced.ensures.value
 
 pub returns-clause-err_end : goal.returns-clause-err_end
 unfolding literals

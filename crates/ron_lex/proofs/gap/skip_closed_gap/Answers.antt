@@ -9,7 +9,11 @@ use Rattle.ron_lex.proofs.gap.skip_closed_gap.Goals as goal
 use Rattle.ron_lex.proofs.gap.skip_closed_gap.Goals.{else-is_ended-via-then-is_ended+else-is_open_line, else-is_ended-via-else-is_ended}
 
 pub loop-after-init : goal.loop-after-init
-loop-after-init c = (c.skip_blanks-rest.utf8, ap (λ s. skip (s ++ 44 ∷ [])) c.skip_blanks-rest.ensures.value ∙ blanks_pass_before (chars c.args.text.now), rw c.skip_blanks-rest.ensures.value (after-run is_blank (chars c.args.text.now)))
+loop-after-init c = (
+  c.skip_blanks-rest.utf8,
+  ap (λ s. skip (s ++ 44 ∷ [])) c.skip_blanks-rest.ensures.value ∙ blanks_pass_before (chars c.args.text.now),
+  rw c.skip_blanks-rest.ensures.value (after-run is_blank (chars c.args.text.now)),
+)
 
 pub loop-after-preserved : goal.loop-after-preserved
 loop-after-preserved c =
@@ -20,7 +24,8 @@ loop-after-preserved c =
       | else-is_ended-via-else-is_ended w ↦ ap (λ b. b && opens_open_line rest) (sym c.is_ended.ensures ∙ w.if-is_ended.false)
     ] in (
       c.skip_blanks-rest-in-Some.utf8,
-      ap (λ s. skip (s ++ 44 ∷ [])) c.skip_blanks-rest-in-Some.ensures.value ∙ blanks_pass_before after ∙ sym (past_before rest after c.loop-after.invariant.2 c.in-Some.ensures.value closed) ∙ c.loop-after.invariant.1,
+      ap (λ s. skip (s ++ 44 ∷ [])) c.skip_blanks-rest-in-Some.ensures.value ∙ blanks_pass_before after
+          ∙ sym (past_before rest after c.loop-after.invariant.2 c.in-Some.ensures.value closed) ∙ c.loop-after.invariant.1,
       rw c.skip_blanks-rest-in-Some.ensures.value (after-run is_blank after),
     )
 

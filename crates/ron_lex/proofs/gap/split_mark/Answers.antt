@@ -9,11 +9,13 @@ returns-in_default-clause-value c n = to_mark n _ _ c.next_mark.ensures.value �
 
 pub returns-in-Some-strip_mark-clause-value : goal.returns-in-Some-strip_mark-clause-value
 returns-in-Some-strip_mark-clause-value c n =
-    to_mark n _ _ c.next_mark.ensures.value ∙ rw (c.in-Some.ensures.chars, c.if-first-eq42.true, c.in-Some-strip_mark.ensures.chars) (mark_closes n (chars c.in-Some-strip_mark.rest.now))
+    to_mark n _ _ c.next_mark.ensures.value
+    ∙ rw (c.in-Some.ensures.chars, c.if-first-eq42.true, c.in-Some-strip_mark.ensures.chars) (mark_closes n (chars c.in-Some-strip_mark.rest.now))
 
 pub returns-in-None-clause-value : goal.returns-in-None-clause-value
 returns-in-None-clause-value c n =
-    to_mark n _ _ c.next_mark.ensures.value ∙ rw (c.in-Some.ensures.chars, c.if-first-eq42.true) (star_alone n (chars c.in-Some.after.now) c.in-None.ensures.chars)
+    to_mark n _ _ c.next_mark.ensures.value
+    ∙ rw (c.in-Some.ensures.chars, c.if-first-eq42.true) (star_alone n (chars c.in-Some.after.now) c.in-None.ensures.chars)
 
 pub returns-in-Some-strip_mark-2-clause-value : goal.returns-in-Some-strip_mark-2-clause-value
 returns-in-Some-strip_mark-2-clause-value c n =

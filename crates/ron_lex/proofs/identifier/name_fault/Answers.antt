@@ -14,7 +14,9 @@ pub returns-then-is_ended-clause-least : goal.returns-then-is_ended-clause-least
 returns-then-is_ended-clause-least c h = ended_whole (chars c.args.text.now) _ (sym c.is_ended.ensures ∙ c.if-is_ended.true)
 
 pub returns-then-is_ended-2-clause-least : goal.returns-then-is_ended-2-clause-least
-returns-then-is_ended-2-clause-least c h = rw (sym c.skip_run.ensures.value) (ended_front (chars c.before-run.result.now) (chars c.skip_run.result.now) (chars c.args.text.now) (sym c.is_ended-2.ensures ∙ c.if-is_ended-2.true) c.before-run.ensures)
+returns-then-is_ended-2-clause-least c h = rw (sym c.skip_run.ensures.value) (ended_front (chars c.before-run.result.now) (chars c.skip_run.result.now)
+    (chars c.args.text.now) (sym c.is_ended-2.ensures ∙ c.if-is_ended-2.true) c.before-run.ensures)
 
 pub returns-else-is_ended-2-clause-least : goal.returns-else-is_ended-2-clause-least
-returns-else-is_ended-2-clause-least c h = rw (sym c.skip_run.ensures.value) (front_all (chars c.before-run.result.now) (chars c.skip_run.result.now) (chars c.args.text.now) c.before-run.ensures)
+returns-else-is_ended-2-clause-least c h =
+    rw (sym c.skip_run.ensures.value) (front_all (chars c.before-run.result.now) (chars c.skip_run.result.now) (chars c.args.text.now) c.before-run.ensures)

@@ -10,11 +10,13 @@ returns-in_default-clause-seen c = look_here _
 
 pub returns-then-is_at_class-clause-seen : goal.returns-then-is_at_class-clause-seen
 returns-then-is_at_class-clause-seen c =
-    look_words (behind_word _ _ _ c.requires c.in-Some.ensures.value (past_is_end _ _ (run_past (chars c.args.text.now) _ _ c.in-Some.ensures.value c.in-Some.ensures.joined)))
+    look_words (behind_word _ _ _ c.requires c.in-Some.ensures.value
+    (past_is_end _ _ (run_past (chars c.args.text.now) _ _ c.in-Some.ensures.value c.in-Some.ensures.joined)))
 
 pub returns-clause-seen : goal.returns-clause-seen
 returns-clause-seen c =
-    behind_word _ _ _ c.requires c.in-Some.ensures.value (past_is_end _ _ (run_past (chars c.args.text.now) _ _ c.in-Some.ensures.value c.in-Some.ensures.joined))
+    behind_word _ _ _ c.requires c.in-Some.ensures.value
+    (past_is_end _ _ (run_past (chars c.args.text.now) _ _ c.in-Some.ensures.value c.in-Some.ensures.joined))
 
 pub returns-in_default-clause-run : goal.returns-in_default-clause-run
 returns-in_default-clause-run c = run_past_none (chars c.args.text.now) c.in_default.ensures.value

@@ -30,7 +30,8 @@ plain_identifier-requires c = no_raw_name (chars c.args.text.now) (sym c.has_raw
 
 pub returns-clause-value : goal.returns-clause-value
 returns-clause-value c =
-    rw (name_plain (chars c.args.text.now) (sym c.has_raw_mark.ensures ∙ c.if-has_raw_mark.false) (sym c.opens_literal.ensures ∙ c.if-opens_literal.false)) c.plain_identifier.ensures.value
+    rw (name_plain (chars c.args.text.now) (sym c.has_raw_mark.ensures ∙ c.if-has_raw_mark.false) (sym c.opens_literal.ensures ∙ c.if-opens_literal.false))
+    c.plain_identifier.ensures.value
 
 pub returns-in-Err-clause-run : goal.returns-in-Err-clause-run
 returns-in-Err-clause-run c h =

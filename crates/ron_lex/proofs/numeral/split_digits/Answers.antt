@@ -8,7 +8,8 @@ use Rattle.ron_lex.proofs.numeral.split_digits.Goals as goal
 pub returns-in_default-to_digit-clause-value : goal.returns-in_default-to_digit-clause-value
 returns-in_default-to_digit-clause-value c =
     rw (digits_on-in_base _ _ (sym c.is_at_class.ensures ∙ c.if-not-is_at_class.false))
-    (digit_refused _ _ _ _ _ _ c.in-Some.ensures.chars (sym c.is_ascii_hexdigit.ensures.value ∙ c.if-is_ascii_hexdigit.true) c.in_default-to_digit.ensures.value c.loop-first.invariant.value)
+    (digit_refused _ _ _ _ _ _ c.in-Some.ensures.chars (sym c.is_ascii_hexdigit.ensures.value ∙ c.if-is_ascii_hexdigit.true) c.in_default-to_digit.ensures.value
+    c.loop-first.invariant.value)
 
 pub returns-then-first-ne95-clause-value : goal.returns-then-first-ne95-clause-value
 returns-then-first-ne95-clause-value c =
@@ -24,7 +25,8 @@ pub loop-first-preserved-in-Some-to_digit : goal.loop-first-preserved-in-Some-to
 loop-first-preserved-in-Some-to_digit c = record {
   utf8 = search rules;
   end = end_of_end _ _ _ (end_behind_char _ _ _ c.in-Some.ensures.chars) c.loop-first.invariant.end;
-  value = digit_taken _ _ _ _ _ _ _ _ c.requires.least c.in-Some.ensures.chars (sym c.is_ascii_hexdigit.ensures.value ∙ c.if-is_ascii_hexdigit.true) c.in-Some-to_digit.ensures.value c.with_digit-value.ensures c.loop-first.invariant.value;
+  value = digit_taken _ _ _ _ _ _ _ _ c.requires.least c.in-Some.ensures.chars (sym c.is_ascii_hexdigit.ensures.value ∙ c.if-is_ascii_hexdigit.true)
+      c.in-Some-to_digit.ensures.value c.with_digit-value.ensures c.loop-first.invariant.value;
 }
 
 pub loop-first-preserved : goal.loop-first-preserved

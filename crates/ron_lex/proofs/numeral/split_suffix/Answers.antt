@@ -49,7 +49,10 @@ returns-in-Some-strip_word-9-clause-value c = suffix_there u128 _ _ c.in-Some-st
 pub returns-clause-value : goal.returns-clause-value
 unfolding literals
 returns-clause-value c =
-    no_suffix_there (chars c.args.text.now) (each_suffix (λ x. stands (suffix_word x) (chars c.args.text.now) ≡ false) c.in_default.ensures.stands c.in_default-strip_word.ensures.stands c.in_default-strip_word-2.ensures.stands c.in_default-strip_word-3.ensures.stands c.in_default-strip_word-4.ensures.stands c.in_default-strip_word-5.ensures.stands c.in_default-strip_word-6.ensures.stands c.in_default-strip_word-7.ensures.stands c.in_default-strip_word-8.ensures.stands c.in_default-strip_word-9.ensures.stands)
+    no_suffix_there (chars c.args.text.now) (each_suffix (λ x. stands (suffix_word x) (chars c.args.text.now) ≡ false) c.in_default.ensures.stands
+    c.in_default-strip_word.ensures.stands c.in_default-strip_word-2.ensures.stands c.in_default-strip_word-3.ensures.stands
+    c.in_default-strip_word-4.ensures.stands c.in_default-strip_word-5.ensures.stands c.in_default-strip_word-6.ensures.stands
+    c.in_default-strip_word-7.ensures.stands c.in_default-strip_word-8.ensures.stands c.in_default-strip_word-9.ensures.stands)
 
 pub returns-then-not-is_at-clause-value : goal.returns-then-not-is_at-clause-value
 returns-then-not-is_at-clause-value c =

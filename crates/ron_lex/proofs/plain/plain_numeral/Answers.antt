@@ -8,7 +8,8 @@ use Rattle.ron_lex.proofs.plain.plain_numeral.Goals as goal
 
 pub before-requires : goal.before-requires
 before-requires c =
-    past_is_end _ _ (begun_past _ c.args.begun c.requires (sym c.is_at_class.ensures ∙ c.if-not-is_at_class.false) (sym c.ends_plain.ensures ∙ c.if-not-ends_plain.false))
+    past_is_end _ _
+    (begun_past _ c.args.begun c.requires (sym c.is_at_class.ensures ∙ c.if-not-is_at_class.false) (sym c.ends_plain.ensures ∙ c.if-not-ends_plain.false))
 
 pub returns-clause-value : goal.returns-clause-value
 returns-clause-value c =
@@ -18,7 +19,8 @@ returns-clause-value c =
 
 pub returns-clause-no_byte : goal.returns-clause-no_byte
 returns-clause-no_byte c =
-    no_byte (chars c.args.text.now) (chars c.args.begun.digits.now) (chars c.args.begun.behind.now) c.args.begun.base c.args.begun.start c.requires.base c.requires.digits
+    no_byte (chars c.args.text.now) (chars c.args.begun.digits.now) (chars c.args.begun.behind.now) c.args.begun.base c.args.begun.start c.requires.base
+    c.requires.digits
     (begun_magnitude _ c.args.begun c.requires (sym c.is_at_class.ensures ∙ c.if-not-is_at_class.false) (sym c.ends_plain.ensures ∙ c.if-not-ends_plain.false))
 
 pub returns-clause-no_float : goal.returns-clause-no_float

@@ -19,5 +19,8 @@ loop-more-preserved c =
       all = sym (ap (after_run is_hash) c.in-Some.ensures) ∙ before.all;
       end = sym (ap (after_run is_hash) c.in-Some-strip_char.ensures) ∙ before.end;
       begins = sym (ap₂ begins_with c.in-Some.ensures c.in-Some-strip_char.ensures) ∙ before.begins;
-      passed = (before.passed.0 ++ 35 ∷ [], (one_passed _ _ _ _ before.passed.1.0 c.in-Some-strip_char.ensures, one_passed _ _ _ _ before.passed.1.1 c.in-Some.ensures));
+      passed = (
+        before.passed.0 ++ 35 ∷ [],
+        (one_passed _ _ _ _ before.passed.1.0 c.in-Some-strip_char.ensures, one_passed _ _ _ _ before.passed.1.1 c.in-Some.ensures),
+      );
     }

@@ -16,7 +16,8 @@ returns-in-Some-clause-slice c = quoted_slice _ _ _ c.in-Some.ensures c.split_qu
 
 pub returns-in-Some-clause-between : goal.returns-in-Some-clause-between
 returns-in-Some-clause-between c =
-    slices_between _ _ (rw (string_quoted _ _ c.in-Some.ensures) c.split_quoted.ensures.value) (quoted_slice _ _ _ c.in-Some.ensures c.split_quoted.ensures.value c.split_quoted.ensures.slice)
+    slices_between _ _ (rw (string_quoted _ _ c.in-Some.ensures) c.split_quoted.ensures.value)
+    (quoted_slice _ _ _ c.in-Some.ensures c.split_quoted.ensures.value c.split_quoted.ensures.slice)
 
 pub returns-in-Some-clause-memory : goal.returns-in-Some-clause-memory
 returns-in-Some-clause-memory c = memory_held _ _ _ c.in-Some.ensures c.split_quoted.ensures.memory
@@ -25,13 +26,16 @@ pub returns-in-Some-clause-err_end : goal.returns-in-Some-clause-err_end
 returns-in-Some-clause-err_end c = IfErr-weaker _ _ _ (λ e k. end_behind _ _ _ e c.in-Some.ensures k) c.split_quoted.ensures.err_end
 
 pub returns-in_default-strip_char-clause-value : goal.returns-in_default-strip_char-clause-value
-returns-in_default-strip_char-clause-value c = failed_err parsed_text c.into.result _ (string_none (chars c.args.text.now) c.in_default.ensures c.in_default-strip_char.ensures)
+returns-in_default-strip_char-clause-value c =
+    failed_err parsed_text c.into.result _ (string_none (chars c.args.text.now) c.in_default.ensures c.in_default-strip_char.ensures)
 
 pub returns-in_err-content-clause-value : goal.returns-in_err-content-clause-value
-returns-in_err-content-clause-value c = failed_refusal _ _ _ c.from_residual.ensures.0 (string_raw _ _ c.in-Some-strip_char.ensures ∙ c.in_err-content.ensures.value)
+returns-in_err-content-clause-value c =
+    failed_refusal _ _ _ c.from_residual.ensures.0 (string_raw _ _ c.in-Some-strip_char.ensures ∙ c.in_err-content.ensures.value)
 
 pub returns-in_err-content-clause-err_end : goal.returns-in_err-content-clause-err_end
-returns-in_err-content-clause-err_end c = refused_end _ _ _ c.from_residual.ensures.1 (end_past_char _ _ _ _ c.in-Some-strip_char.ensures c.in_err-content.ensures.err_end)
+returns-in_err-content-clause-err_end c =
+    refused_end _ _ _ c.from_residual.ensures.1 (end_past_char _ _ _ _ c.in-Some-strip_char.ensures c.in_err-content.ensures.err_end)
 
 pub returns-clause-value : goal.returns-clause-value
 returns-clause-value c = string_raw _ _ c.in-Some-strip_char.ensures ∙ c.in_ok-content.ensures.value

@@ -8,8 +8,10 @@ before-requires c = gap_end _ _ c.skip_gap-rest.ensures.value
 
 pub returns-then-is_ended : goal.returns-then-is_ended
 returns-then-is_ended c =
-    gap_empty (chars c.args.text.now) (chars c.before-2.result.now) (c.before-2.ensures ∙ ap (λ x. chars c.before-2.result.now ++ x) c.skip_gap-rest.ensures.value) (sym c.is_ended.ensures ∙ c.if-is_ended.true)
+    gap_empty (chars c.args.text.now) (chars c.before-2.result.now)
+    (c.before-2.ensures ∙ ap (λ x. chars c.before-2.result.now ++ x) c.skip_gap-rest.ensures.value) (sym c.is_ended.ensures ∙ c.if-is_ended.true)
 
 pub returns : goal.returns
 returns c =
-    rw c.skip_gap-rest.ensures.value (gap_whole (chars c.args.text.now) (chars c.before-2.result.now) (c.before-2.ensures ∙ ap (λ x. chars c.before-2.result.now ++ x) c.skip_gap-rest.ensures.value) (sym c.is_ended.ensures ∙ c.if-is_ended.false))
+    rw c.skip_gap-rest.ensures.value (gap_whole (chars c.args.text.now) (chars c.before-2.result.now)
+    (c.before-2.ensures ∙ ap (λ x. chars c.before-2.result.now ++ x) c.skip_gap-rest.ensures.value) (sym c.is_ended.ensures ∙ c.if-is_ended.false))

@@ -15,21 +15,25 @@ returns-in-Err-clause-value c = untyped_raw (chars c.args.text.now) (sym c.begin
 
 pub returns-then-opens_literal-clause-value : goal.returns-then-opens_literal-clause-value
 unfolding literals
-returns-then-opens_literal-clause-value c = untyped_literal (chars c.args.text.now) (sym c.begins_with.ensures ∙ c.if-begins_with.false) (sym c.opens_literal.ensures ∙ c.if-opens_literal.true)
+returns-then-opens_literal-clause-value c =
+    untyped_literal (chars c.args.text.now) (sym c.begins_with.ensures ∙ c.if-begins_with.false) (sym c.opens_literal.ensures ∙ c.if-opens_literal.true)
 
 pub returns-in_default-clause-value : goal.returns-in_default-clause-value
 unfolding literals
-returns-in_default-clause-value c = untyped_refused (chars c.args.text.now) (sym c.begins_with.ensures ∙ c.if-begins_with.false) (sym c.opens_literal.ensures ∙ c.if-opens_literal.false) c.in_default.ensures.value
+returns-in_default-clause-value c = untyped_refused (chars c.args.text.now) (sym c.begins_with.ensures ∙ c.if-begins_with.false)
+    (sym c.opens_literal.ensures ∙ c.if-opens_literal.false) c.in_default.ensures.value
 
 pub returns-then-is_value_word-clause-value : goal.returns-then-is_value_word-clause-value
 unfolding literals
 returns-then-is_value_word-clause-value c =
-    untyped_word (chars c.args.text.now) _ _ (sym c.begins_with.ensures ∙ c.if-begins_with.false) (sym c.opens_literal.ensures ∙ c.if-opens_literal.false) c.in-Some.ensures.value (sym c.is_value_word.ensures ∙ c.if-is_value_word.true)
+    untyped_word (chars c.args.text.now) _ _ (sym c.begins_with.ensures ∙ c.if-begins_with.false) (sym c.opens_literal.ensures ∙ c.if-opens_literal.false)
+    c.in-Some.ensures.value (sym c.is_value_word.ensures ∙ c.if-is_value_word.true)
 
 pub returns-clause-value : goal.returns-clause-value
 unfolding literals
 returns-clause-value c =
-    untyped_got (chars c.args.text.now) _ _ (sym c.begins_with.ensures ∙ c.if-begins_with.false) (sym c.opens_literal.ensures ∙ c.if-opens_literal.false) c.in-Some.ensures.value (sym c.is_value_word.ensures ∙ c.if-is_value_word.false)
+    untyped_got (chars c.args.text.now) _ _ (sym c.begins_with.ensures ∙ c.if-begins_with.false) (sym c.opens_literal.ensures ∙ c.if-opens_literal.false)
+    c.in-Some.ensures.value (sym c.is_value_word.ensures ∙ c.if-is_value_word.false)
 
 pub returns-clause-past : goal.returns-clause-past
 returns-clause-past c = run_past (chars c.args.text.now) _ _ c.in-Some.ensures.value c.in-Some.ensures.joined
@@ -49,12 +53,14 @@ returns-in_default-clause-seen c = look_here _
 pub returns-then-is_value_word-clause-seen : goal.returns-then-is_value_word-clause-seen
 unfolding literals
 returns-then-is_value_word-clause-seen c =
-    look_words (behind_word _ _ _ (no_raw_name (chars c.args.text.now) (sym c.begins_with.ensures ∙ c.if-begins_with.false)) c.in-Some.ensures.value (past_is_end _ _ (run_past (chars c.args.text.now) _ _ c.in-Some.ensures.value c.in-Some.ensures.joined)))
+    look_words (behind_word _ _ _ (no_raw_name (chars c.args.text.now) (sym c.begins_with.ensures ∙ c.if-begins_with.false)) c.in-Some.ensures.value
+    (past_is_end _ _ (run_past (chars c.args.text.now) _ _ c.in-Some.ensures.value c.in-Some.ensures.joined)))
 
 pub returns-clause-seen : goal.returns-clause-seen
 unfolding literals
 returns-clause-seen c =
-    behind_word _ _ _ (no_raw_name (chars c.args.text.now) (sym c.begins_with.ensures ∙ c.if-begins_with.false)) c.in-Some.ensures.value (past_is_end _ _ (run_past (chars c.args.text.now) _ _ c.in-Some.ensures.value c.in-Some.ensures.joined))
+    behind_word _ _ _ (no_raw_name (chars c.args.text.now) (sym c.begins_with.ensures ∙ c.if-begins_with.false)) c.in-Some.ensures.value
+    (past_is_end _ _ (run_past (chars c.args.text.now) _ _ c.in-Some.ensures.value c.in-Some.ensures.joined))
 
 pub returns-in-Err-clause-word : goal.returns-in-Err-clause-word
 unfolding literals

@@ -13,9 +13,11 @@ before-requires-2 c = end_of_before _ _ _ _ c.requires c.before-2.ensures
 pub behind-requires : goal.behind-requires
 behind-requires c =
     let start = chars c.before-3.result.now in
-    rw (before_both (chars c.args.front.now) (chars c.args.rest.now) _ _ start c.before-2.ensures c.before-3.ensures) (begins-append start (chars c.args.front.now ++ chars c.args.rest.now))
+    rw (before_both (chars c.args.front.now) (chars c.args.rest.now) _ _ start c.before-2.ensures c.before-3.ensures)
+    (begins-append start (chars c.args.front.now ++ chars c.args.rest.now))
 
 pub returns : goal.returns
 returns c =
     let start = chars c.before-3.result.now in
-    append_cancel_left start _ _ (sym c.behind.ensures ∙ before_both (chars c.args.front.now) (chars c.args.rest.now) _ _ start c.before-2.ensures c.before-3.ensures)
+    append_cancel_left start _ _
+    (sym c.behind.ensures ∙ before_both (chars c.args.front.now) (chars c.args.rest.now) _ _ start c.before-2.ensures c.before-3.ensures)

@@ -10,7 +10,8 @@ range_from-rest-requires c _ = IsCharBoundary-from_drop _ _ c.loop-place.invaria
 
 pub returns-then-is_ascii-clause-value : goal.returns-then-is_ascii-clause-value
 returns-then-is_ascii-clause-value c =
-    byte_ends continues_name c.as_bytes-bytes.ensures.value c.loop-place-test.true c.loop-place.invariant.1 (sym c.is_ascii.ensures ∙ c.if-is_ascii.true) (sym c.is_name_byte.ensures ∙ c.if-not-is_name_byte.true) c.range_from-rest.ensures.value
+    byte_ends continues_name c.as_bytes-bytes.ensures.value c.loop-place-test.true c.loop-place.invariant.1 (sym c.is_ascii.ensures ∙ c.if-is_ascii.true)
+    (sym c.is_name_byte.ensures ∙ c.if-not-is_name_byte.true) c.range_from-rest.ensures.value
     ∙ c.loop-place.invariant.2
 
 pub loop-place-preserved : goal.loop-place-preserved

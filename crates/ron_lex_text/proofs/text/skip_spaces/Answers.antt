@@ -9,7 +9,8 @@ pub range_from-requires : goal.range_from-requires
 range_from-requires c _ = IsCharBoundary-from_drop _ _ c.loop-place.invariant.0 c.loop-place.invariant.1
 
 pub returns-then-bytes-place-ne32-clause-value : goal.returns-then-bytes-place-ne32-clause-value
-returns-then-bytes-place-ne32-clause-value c = spaces_end _ c.as_bytes-bytes.ensures.value c.loop-place.invariant.1 c.if-bytes-place-ne32.true c.range_from.ensures.value ∙ c.loop-place.invariant.2
+returns-then-bytes-place-ne32-clause-value c =
+    spaces_end _ c.as_bytes-bytes.ensures.value c.loop-place.invariant.1 c.if-bytes-place-ne32.true c.range_from.ensures.value ∙ c.loop-place.invariant.2
 
 pub loop-place-preserved : goal.loop-place-preserved
 loop-place-preserved c =

@@ -4,7 +4,8 @@ use Rattle.ron_spec_words.specs.Characters.{colon}
 use Rattle.ron_spec_words.specs.Runs.{is_at}
 use Rattle.ron_lex_text.specs.Stretch.{stands_called, parting}
 use Rattle.ron_lex_text.proofs.CalledLemmas.{both_pass, parted, ended, joined, stands_here, stands_nowhere}
-use Rattle.ron_lex_text.proofs.text.strip_called.Goals.{then-place-bytes-via-then-place-bytes, then-place-bytes-via-else-place-bytes+then-bytes-place, then-place-bytes-via-else-place-bytes+else-bytes-place+then-not-is_name_byte}
+use Rattle.ron_lex_text.proofs.text.strip_called.Goals.{then-place-bytes-via-then-place-bytes, then-place-bytes-via-else-place-bytes+then-bytes-place}
+use Rattle.ron_lex_text.proofs.text.strip_called.Goals.{then-place-bytes-via-else-place-bytes+else-bytes-place+then-not-is_name_byte}
 use Rattle.ron_lex_text.proofs.text.strip_called.Goals as goal
 
 pub range_from-requires : goal.range_from-requires
@@ -15,7 +16,8 @@ range_from-end-requires c _ = IsCharBoundary-from_drop _ _ c.loop-place.invarian
 
 pub returns-then-place-bytes-clause-value : goal.returns-then-place-bytes-clause-value
 returns-then-place-bytes-clause-value c =
-    sym c.loop-place.invariant.4 ∙ (parted c.as_bytes-wanted.ensures.value c.as_bytes-bytes.ensures.value c.loop-place-test.true c.loop-place.invariant.2 c.loop-place.invariant.3 (elim c.then-place-bytes.branch [
+    sym c.loop-place.invariant.4 ∙ (parted c.as_bytes-wanted.ensures.value c.as_bytes-bytes.ensures.value c.loop-place-test.true c.loop-place.invariant.2
+    c.loop-place.invariant.3 (elim c.then-place-bytes.branch [
       | then-place-bytes-via-then-place-bytes w ↦ λ lt same. absurd (omega (arith, lt, w.if-place-bytes.true))
       | then-place-bytes-via-else-place-bytes+then-bytes-place w ↦ λ lt same. absurd (w.if-bytes-place.true same)
       | then-place-bytes-via-else-place-bytes+else-bytes-place+then-not-is_name_byte w ↦ λ lt same. sym w.is_name_byte.ensures ∙ w.if-not-is_name_byte.true
@@ -23,7 +25,8 @@ returns-then-place-bytes-clause-value c =
 
 pub returns-then-place-bytes-clause-end : goal.returns-then-place-bytes-clause-end
 returns-then-place-bytes-clause-end c =
-    ap chars c.range_from.ensures.value ∙ sym (parted c.as_bytes-wanted.ensures.value c.as_bytes-bytes.ensures.value c.loop-place-test.true c.loop-place.invariant.2 c.loop-place.invariant.3 (elim c.then-place-bytes.branch [
+    ap chars c.range_from.ensures.value ∙ sym (parted c.as_bytes-wanted.ensures.value c.as_bytes-bytes.ensures.value c.loop-place-test.true
+    c.loop-place.invariant.2 c.loop-place.invariant.3 (elim c.then-place-bytes.branch [
       | then-place-bytes-via-then-place-bytes w ↦ λ lt same. absurd (omega (arith, lt, w.if-place-bytes.true))
       | then-place-bytes-via-else-place-bytes+then-bytes-place w ↦ λ lt same. absurd (w.if-bytes-place.true same)
       | then-place-bytes-via-else-place-bytes+else-bytes-place+then-not-is_name_byte w ↦ λ lt same. sym w.is_name_byte.ensures ∙ w.if-not-is_name_byte.true
@@ -31,7 +34,8 @@ returns-then-place-bytes-clause-end c =
 
 pub loop-place-preserved : goal.loop-place-preserved
 loop-place-preserved c =
-    let next = both_pass c.as_bytes-wanted.ensures.value c.as_bytes-bytes.ensures.value c.loop-place-test.true c.if-place-bytes.false c.if-bytes-place.false c.loop-place.invariant.2 c.loop-place.invariant.3 (sym c.is_name_byte.ensures ∙ c.if-not-is_name_byte.false) in
+    let next = both_pass c.as_bytes-wanted.ensures.value c.as_bytes-bytes.ensures.value c.loop-place-test.true c.if-place-bytes.false c.if-bytes-place.false
+    c.loop-place.invariant.2 c.loop-place.invariant.3 (sym c.is_name_byte.ensures ∙ c.if-not-is_name_byte.false) in
     (next.0, next.1, next.2, next.3, next.4 ∙ c.loop-place.invariant.4, next.5 ∙ c.loop-place.invariant.5)
 
 pub returns-in-Some-clause-value : goal.returns-in-Some-clause-value
@@ -39,7 +43,8 @@ returns-in-Some-clause-value c =
     let nothing = ended c.as_bytes-wanted.ensures.value c.loop-place-test.false in
     let here = chars (drop c.loop-place.place c.args.text.now) in
     let is = sym (ap chars c.range_from-end.ensures.value) ∙ c.in-Some.ensures in
-    joined (chars c.args.name.now) (chars c.args.text.now) _ (sym c.loop-place.invariant.4 ∙ ap (λ n. stands_called n here) nothing ∙ stands_here here _ is) (sym c.loop-place.invariant.5 ∙ ap (λ n. parting n here) nothing ∙ is)
+    joined (chars c.args.name.now) (chars c.args.text.now) _ (sym c.loop-place.invariant.4 ∙ ap (λ n. stands_called n here) nothing ∙ stands_here here _ is)
+    (sym c.loop-place.invariant.5 ∙ ap (λ n. parting n here) nothing ∙ is)
 
 pub returns-in-Some-clause-stands : goal.returns-in-Some-clause-stands
 returns-in-Some-clause-stands c =
@@ -55,4 +60,5 @@ returns-in-None-clause-value c =
 
 pub returns-in-None-clause-end : goal.returns-in-None-clause-end
 returns-in-None-clause-end c =
-    ap chars c.range_from-end.ensures.value ∙ sym (ap (λ n. parting n (chars (drop c.loop-place.place c.args.text.now))) (ended c.as_bytes-wanted.ensures.value c.loop-place-test.false)) ∙ c.loop-place.invariant.5
+    ap chars c.range_from-end.ensures.value ∙ sym (ap (λ n. parting n (chars (drop c.loop-place.place c.args.text.now)))
+    (ended c.as_bytes-wanted.ensures.value c.loop-place-test.false)) ∙ c.loop-place.invariant.5

@@ -13,4 +13,5 @@ returns-then-not-is_empty g c =
 pub returns-else-not-is_empty : goal.returns-else-not-is_empty
 returns-else-not-is_empty g c =
     let took = g.O.Output.puts in
-    subst (λ bs. WritesInCalls took c.args.out.now bs c.args.out.now) (sym (encodes-chars _ c.utf8.text ∙ nothing_left c.args.text.now (sym c.is_empty.ensures ∙ c.if-not-is_empty.false))) (nothing took c.args.out.now)
+    subst (λ bs. WritesInCalls took c.args.out.now bs c.args.out.now)
+    (sym (encodes-chars _ c.utf8.text ∙ nothing_left c.args.text.now (sym c.is_empty.ensures ∙ c.if-not-is_empty.false))) (nothing took c.args.out.now)

@@ -11,8 +11,10 @@ before-requires c = run_end in_line (chars c.args.text.now) (chars c.skip_to_lin
 
 pub returns-in-Some-clause-lines : goal.returns-in-Some-clause-lines
 returns-in-Some-clause-lines c =
-    lines_more (chars c.args.text.now) (chars c.before-in-Some.result.now) (chars c.skip_to_line_end-end.result.now) (chars c.in-Some.rest.now) c.in-Some.field-0-0 c.skip_to_line_end-end.ensures.value c.before-in-Some.ensures c.in-Some.ensures.chars
+    lines_more (chars c.args.text.now) (chars c.before-in-Some.result.now) (chars c.skip_to_line_end-end.result.now) (chars c.in-Some.rest.now)
+    c.in-Some.field-0-0 c.skip_to_line_end-end.ensures.value c.before-in-Some.ensures c.in-Some.ensures.chars
     ∙ ap (λ l. l ∷ lines (chars c.in-Some.rest.now)) (sym c.without_return.ensures)
 
 pub returns-in-None-clause-lines : goal.returns-in-None-clause-lines
-returns-in-None-clause-lines c = lines_last (chars c.args.text.now) (chars c.skip_to_line_end-end.result.now) (sym c.is_ended.ensures ∙ c.if-is_ended.false) c.skip_to_line_end-end.ensures.value c.in-None.ensures.chars ∙ ap (λ t. chars c.args.text.now ∷ lines t) (sym chars-nil)
+returns-in-None-clause-lines c = lines_last (chars c.args.text.now) (chars c.skip_to_line_end-end.result.now) (sym c.is_ended.ensures ∙ c.if-is_ended.false)
+    c.skip_to_line_end-end.ensures.value c.in-None.ensures.chars ∙ ap (λ t. chars c.args.text.now ∷ lines t) (sym chars-nil)

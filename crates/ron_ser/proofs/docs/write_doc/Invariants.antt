@@ -12,8 +12,10 @@ abbrev pub invariant-loop-line : goal.invariant-loop-line
 invariant-loop-line g l =
     shadow (Utf8 l.rest)
     × ((v : g.row.O.Denot)
-    → WritesInCalls g.O.Output.puts l.out (encode_utf8_all (flat_map (λ t. codes "/// " ++ (t ++ line_at (place_of l.writing).config l.level)) (lines (chars l.rest)))) v
-    → WritesInCalls g.O.Output.puts l.initial.out (encode_utf8_all (flat_map (λ t. codes "/// " ++ (t ++ line_at (place_of l.writing).config l.level)) (lines (chars l.doc)))) v)
+    → WritesInCalls g.O.Output.puts l.out
+    (encode_utf8_all (flat_map (λ t. codes "/// " ++ (t ++ line_at (place_of l.writing).config l.level)) (lines (chars l.rest)))) v
+    → WritesInCalls g.O.Output.puts l.initial.out
+    (encode_utf8_all (flat_map (λ t. codes "/// " ++ (t ++ line_at (place_of l.writing).config l.level)) (lines (chars l.doc)))) v)
 
 abbrev pub decreases-loop-line : goal.decreases-loop-line
 decreases-loop-line g l = length l.rest

@@ -13,5 +13,6 @@ returns-then-n-lt16 g t c k h =
 pub returns : goal.returns
 returns g t c k h =
     let took = g.O.Output.puts in
-    let digit = subst (λ bs. WritesInCalls took c.write_hexadecimal.new.out bs c.put-2.new.self) c.hexadecimal_digit-2.ensures (one took _ _ _ c.put-2.ensures) in
+    let digit =
+    subst (λ bs. WritesInCalls took c.write_hexadecimal.new.out bs c.put-2.new.self) c.hexadecimal_digit-2.ensures (one took _ _ _ c.put-2.ensures) in
     digits_put took c.args.n _ _ _ c.if-n-lt16.false c.write_hexadecimal.ensures digit k h

@@ -6,4 +6,5 @@ use Rattle.ron_ser.proofs.escapes.put_char.Goals as goal
 pub returns : goal.returns
 returns g c =
     let took = g.O.Output.puts in
-    subst (λ bs. WritesInCalls took c.args.out.now bs c.put.new.self) (c.encode_utf8.ensures.value ∙ sym (append-nil (encode_utf8 c.args.c))) (one took _ _ _ c.put.ensures)
+    subst (λ bs. WritesInCalls took c.args.out.now bs c.put.new.self) (c.encode_utf8.ensures.value ∙ sym (append-nil (encode_utf8 c.args.c)))
+    (one took _ _ _ c.put.ensures)

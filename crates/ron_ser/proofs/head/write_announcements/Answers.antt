@@ -16,5 +16,7 @@ returns g c =
     let somes : c.contains-somes.result ≡ x.implicit_some = search rules in
     let variants : c.contains-variants.result ≡ x.unwrap_variant_newtypes = search rules in
     let names : c.contains-names.result ≡ x.explicit_struct_names = search rules in
-    subst (λ bs. WritesInCalls took c.args.out.now bs c.write_attribute-4.new.out) (sym (announcement_bytes c.args.defaults (config_view c.args.config.now) _ line))
-    (both took _ _ _ _ _ (rw newtypes at c.write_attribute.ensures) (both took _ _ _ _ _ (rw somes at c.write_attribute-2.ensures) (both took _ _ _ _ _ (rw variants at c.write_attribute-3.ensures) (rw names at c.write_attribute-4.ensures))))
+    subst (λ bs. WritesInCalls took c.args.out.now bs c.write_attribute-4.new.out)
+    (sym (announcement_bytes c.args.defaults (config_view c.args.config.now) _ line))
+    (both took _ _ _ _ _ (rw newtypes at c.write_attribute.ensures) (both took _ _ _ _ _ (rw somes at c.write_attribute-2.ensures)
+    (both took _ _ _ _ _ (rw variants at c.write_attribute-3.ensures) (rw names at c.write_attribute-4.ensures))))

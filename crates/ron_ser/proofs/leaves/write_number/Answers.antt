@@ -11,4 +11,5 @@ returns-then-suffixes g c =
     let took = g.O.Output.puts in
     let n = c.args.number in
     let digits = signed_decimal (number_value n) in
-    (piece took _ _ _ _ _ _ (ap (λ b. number_text b (number_width n) (number_value n)) c.if-suffixes.true ∙ ap (λ word. digits ++ word) (sym (c.name.ensures ∙ ap width_word c.width.ensures))) c.write_digits.ensures (one took _ _ _ (c.put.ensures)))
+    (piece took _ _ _ _ _ _ (ap (λ b. number_text b (number_width n) (number_value n)) c.if-suffixes.true
+    ∙ ap (λ word. digits ++ word) (sym (c.name.ensures ∙ ap width_word c.width.ensures))) c.write_digits.ensures (one took _ _ _ (c.put.ensures)))

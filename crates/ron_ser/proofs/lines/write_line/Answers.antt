@@ -7,4 +7,5 @@ use Rattle.ron_ser.proofs.lines.write_line.Goals as goal
 pub returns : goal.returns
 returns g c =
     let took = g.O.Output.puts in
-    (piece took _ _ _ _ _ _ (line_bytes c.args.new_line.now (times c.args.level (chars c.args.indentor.now)) c.utf8.new_line) (one took _ _ _ (c.put.ensures))) c.write_times.ensures
+    (piece took _ _ _ _ _ _ (line_bytes c.args.new_line.now (times c.args.level (chars c.args.indentor.now)) c.utf8.new_line) (one took _ _ _ (c.put.ensures)))
+    c.write_times.ensures

@@ -15,4 +15,5 @@ range-requires-clause-end_boundary g c = spaces_boundary c.loop-left.left c.loop
 pub returns : goal.returns
 returns g c =
     let took = g.O.Output.puts in
-    (c.loop-left.invariant _ (subst (λ bs. WritesInCalls took c.loop-left.out bs c.put-2.new.self) (spaces_front c.loop-left.left c.range.result.now c.loop-left-test.false c.range.ensures.value) (one took _ _ _ (c.put-2.ensures))))
+    (c.loop-left.invariant _ (subst (λ bs. WritesInCalls took c.loop-left.out bs c.put-2.new.self)
+    (spaces_front c.loop-left.left c.range.result.now c.loop-left-test.false c.range.ensures.value) (one took _ _ _ (c.put-2.ensures))))

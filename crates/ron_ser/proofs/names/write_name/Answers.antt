@@ -13,7 +13,8 @@ use Rattle.ron_ser.proofs.names.write_name.Goals as goal
 pub returns-then-is_plain_name-clause-text : goal.returns-then-is_plain_name-clause-text
 returns-then-is_plain_name-clause-text g c =
     let took = g.O.Output.puts in
-    subst (λ bs. WritesInCalls took c.args.out.now bs c.put.new.self) (sym (bytes-plain_name _ c.utf8.name (sym c.is_plain_name.ensures ∙ c.if-is_plain_name.true))) (one took _ _ _ (c.put.ensures))
+    subst (λ bs. WritesInCalls took c.args.out.now bs c.put.new.self)
+    (sym (bytes-plain_name _ c.utf8.name (sym c.is_plain_name.ensures ∙ c.if-is_plain_name.true))) (one took _ _ _ (c.put.ensures))
 
 pub returns-then-is_plain_name-clause-name : goal.returns-then-is_plain_name-clause-name
 unfolding is_plain_name
@@ -25,5 +26,6 @@ returns-then-is_plain_name-clause-name g c =
 pub returns-clause-text : goal.returns-clause-text
 returns-clause-text g c =
     let took = g.O.Output.puts in
-    subst (λ bs. WritesInCalls took c.args.out.now bs c.put-3.new.self) (sym (bytes-raw_name _ c.utf8.name (sym c.is_plain_name.ensures ∙ c.if-is_plain_name.false)))
+    subst (λ bs. WritesInCalls took c.args.out.now bs c.put-3.new.self)
+    (sym (bytes-raw_name _ c.utf8.name (sym c.is_plain_name.ensures ∙ c.if-is_plain_name.false)))
     (both took _ _ _ _ _ (one took _ _ _ (c.put-2.ensures)) (one took _ _ _ (c.put-3.ensures)))

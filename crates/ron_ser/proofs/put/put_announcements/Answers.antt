@@ -14,4 +14,5 @@ returns g c =
     let fresh = c.new-output.ensures.fault ∙ c.none-fault.ensures in
     let wrote = c.write_announcements.ensures in
     let same = names g.P.Puts.took g.P.Puts.left g.P.Puts.refuses (λ _. ⊥) o p text fresh (Ok tt) wrote in
-    told_of_writer g.P.Puts.took g.P.Puts.left g.P.Puts.refuses (λ _. ⊥) o p text fresh c.new-output.ensures.writer (search (rules, same)) (Ok tt) c.answer.result wrote c.answer.ensures (ap error_of (search (rules, same)))
+    told_of_writer g.P.Puts.took g.P.Puts.left g.P.Puts.refuses (λ _. ⊥) o p text fresh c.new-output.ensures.writer (search (rules, same)) (Ok tt)
+    c.answer.result wrote c.answer.ensures (ap error_of (search (rules, same)))

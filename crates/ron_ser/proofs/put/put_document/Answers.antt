@@ -21,4 +21,5 @@ returns-clause-put g c =
     let fresh = c.new-output.ensures.fault ∙ c.none-fault.ensures in
     let wrote = told_of_data _ o p text config c.args.settings.now.limit d written called.text called.refused called.refused_name called.beginning in
     let same = names g.P.Puts.took g.P.Puts.left g.P.Puts.refuses refused o p text fresh written wrote in
-    told_of_writer g.P.Puts.took g.P.Puts.left g.P.Puts.refuses refused o p text fresh c.new-output.ensures.writer (search (rules, same)) written c.answer.result wrote c.answer.ensures (ap error_of (search (rules, same)))
+    told_of_writer g.P.Puts.took g.P.Puts.left g.P.Puts.refuses refused o p text fresh c.new-output.ensures.writer (search (rules, same)) written
+    c.answer.result wrote c.answer.ensures (ap error_of (search (rules, same)))

@@ -10,7 +10,8 @@ use Rattle.ron_ser.proofs.quoted.write_escaped.Given as goal
 abbrev pub invariant-loop-c : goal.invariant-loop-c
 invariant-loop-c g l =
     shadow (Utf8 l.rest)
-    × ((v : g.row.O.Denot) → WritesInCalls g.O.Output.puts l.out (encode_utf8_all (escaped Both (chars l.rest))) v → WritesInCalls g.O.Output.puts l.initial.out (encode_utf8_all (escaped Both (chars l.text))) v)
+    × ((v : g.row.O.Denot) → WritesInCalls g.O.Output.puts l.out (encode_utf8_all (escaped Both (chars l.rest))) v
+    → WritesInCalls g.O.Output.puts l.initial.out (encode_utf8_all (escaped Both (chars l.text))) v)
 
 abbrev pub decreases-loop-c : goal.decreases-loop-c
 decreases-loop-c g l = length l.rest

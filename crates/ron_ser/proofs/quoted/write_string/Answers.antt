@@ -8,4 +8,5 @@ pub returns : goal.returns
 returns g c =
     let took = g.O.Output.puts in
     let t = chars c.args.text.now in
-    (piece took _ _ _ _ _ _ (ap encode_utf8_all (string_escaped c.args.escape t c.if-not-escape.false) ∙ bytes-string t) (one took _ _ _ (c.put.ensures)) (both took _ _ _ _ _ c.write_escaped.ensures (one took _ _ _ (c.put-2.ensures))))
+    (piece took _ _ _ _ _ _ (ap encode_utf8_all (string_escaped c.args.escape t c.if-not-escape.false) ∙ bytes-string t) (one took _ _ _ (c.put.ensures))
+    (both took _ _ _ _ _ c.write_escaped.ensures (one took _ _ _ (c.put-2.ensures))))

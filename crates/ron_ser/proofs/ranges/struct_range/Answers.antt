@@ -8,4 +8,5 @@ use Rattle.ron_ser.proofs.ranges.struct_range.Goals as goal
 pub returns-in-None : goal.returns-in-None
 returns-in-None c suffixes =
     let name = chars c.args.name.now in
-    subst (λ fields. None ≡ range_text suffixes (struct_of name (fields_view fields))) (sym c.in-Some.ensures.cases.0) (many_none suffixes name c.in-Some.first.now c.in-Some.rest.now (sym c.is_empty.ensures ∙ c.if-is_empty.false) c.in-None.ensures)
+    subst (λ fields. None ≡ range_text suffixes (struct_of name (fields_view fields))) (sym c.in-Some.ensures.cases.0)
+    (many_none suffixes name c.in-Some.first.now c.in-Some.rest.now (sym c.is_empty.ensures ∙ c.if-is_empty.false) c.in-None.ensures)

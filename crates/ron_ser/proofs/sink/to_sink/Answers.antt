@@ -32,8 +32,10 @@ returns-in_err-put_document-clause-beginning g c =
     let start = c.new-gathered.ensures in
     let lost = some_lost failed contents device config c.args.settings.now.limit d _ c.in_err-put_document.ensures.put in
     let p = err_from_is_err_and c.from_residual-in_err-put_document.result c.from_residual-in_err-put_document.ensures.1 in
-    rw (p.1) (at_last (λ s. TakesFront (contents c.args.sink.now) (contents s) (full_layout_bytes c.args.settings.now.extensions config d)) (search (rules, lost.same_sink))
-    (subst (λ s. TakesFront (contents s) (contents c.put_document.new.writer.sink.now) (full_layout_bytes c.args.settings.now.extensions config d)) start.sink (front_taken start.nothing lost)))
+    rw (p.1) (at_last (λ s. TakesFront (contents c.args.sink.now) (contents s) (full_layout_bytes c.args.settings.now.extensions config d))
+    (search (rules, lost.same_sink))
+    (subst (λ s. TakesFront (contents s) (contents c.put_document.new.writer.sink.now) (full_layout_bytes c.args.settings.now.extensions config d)) start.sink
+    (front_taken start.nothing lost)))
 
 pub returns-in_err-put_document-clause-refused : goal.returns-in_err-put_document-clause-refused
 returns-in_err-put_document-clause-refused g c =
@@ -58,8 +60,11 @@ returns-clause-taken g c =
     let start = c.new-gathered.ensures in
     let came = gathered failed contents device c.in_ok-put_document.ensures.put in
     let same = passed_same failed contents device c.pass_on.new.self start.nothing came c.pass_on.result c.pass_on.ensures.passed in
-    at_last (λ s. OnOk c.pass_on.result (Appends (contents c.args.sink.now) (contents s) (full_layout_bytes c.args.settings.now.extensions config d))) (search (rules, same))
-    (subst (λ s. OnOk c.pass_on.result (Appends (contents s) (contents c.pass_on.new.self.sink.now) (full_layout_bytes c.args.settings.now.extensions config d))) start.sink (passed_taken failed contents device c.pass_on.new.self start.nothing came c.pass_on.result c.pass_on.ensures.passed c.pass_on.ensures.nothing))
+    at_last (λ s. OnOk c.pass_on.result (Appends (contents c.args.sink.now) (contents s) (full_layout_bytes c.args.settings.now.extensions config d)))
+    (search (rules, same))
+    (subst
+    (λ s. OnOk c.pass_on.result (Appends (contents s) (contents c.pass_on.new.self.sink.now) (full_layout_bytes c.args.settings.now.extensions config d)))
+    start.sink (passed_taken failed contents device c.pass_on.new.self start.nothing came c.pass_on.result c.pass_on.ensures.passed c.pass_on.ensures.nothing))
 
 pub returns-clause-kept : goal.returns-clause-kept
 returns-clause-kept g c =
@@ -72,7 +77,8 @@ returns-clause-kept g c =
     let came = gathered failed contents device c.in_ok-put_document.ensures.put in
     let same = passed_same failed contents device c.pass_on.new.self start.nothing came c.pass_on.result c.pass_on.ensures.passed in
     at_last (λ s. OnOk c.pass_on.result (failed s ≡ failed c.args.sink.now)) (search (rules, same))
-    (subst (λ s. OnOk c.pass_on.result (failed c.pass_on.new.self.sink.now ≡ failed s)) start.sink (passed_kept failed contents device c.pass_on.new.self start.nothing came c.pass_on.result c.pass_on.ensures.passed))
+    (subst (λ s. OnOk c.pass_on.result (failed c.pass_on.new.self.sink.now ≡ failed s)) start.sink
+    (passed_kept failed contents device c.pass_on.new.self start.nothing came c.pass_on.result c.pass_on.ensures.passed))
 
 pub returns-clause-same : goal.returns-clause-same
 returns-clause-same g c =
@@ -96,8 +102,11 @@ returns-clause-beginning g c =
     let start = c.new-gathered.ensures in
     let came = gathered failed contents device c.in_ok-put_document.ensures.put in
     let same = passed_same failed contents device c.pass_on.new.self start.nothing came c.pass_on.result c.pass_on.ensures.passed in
-    at_last (λ s. OnErr c.pass_on.result (TakesFront (contents c.args.sink.now) (contents s) (full_layout_bytes c.args.settings.now.extensions config d))) (search (rules, same))
-    (subst (λ s. OnErr c.pass_on.result (TakesFront (contents s) (contents c.pass_on.new.self.sink.now) (full_layout_bytes c.args.settings.now.extensions config d))) start.sink (passed_front failed contents device c.pass_on.new.self start.nothing came c.pass_on.result c.pass_on.ensures.passed))
+    at_last (λ s. OnErr c.pass_on.result (TakesFront (contents c.args.sink.now) (contents s) (full_layout_bytes c.args.settings.now.extensions config d)))
+    (search (rules, same))
+    (subst
+    (λ s. OnErr c.pass_on.result (TakesFront (contents s) (contents c.pass_on.new.self.sink.now) (full_layout_bytes c.args.settings.now.extensions config d)))
+    start.sink (passed_front failed contents device c.pass_on.new.self start.nothing came c.pass_on.result c.pass_on.ensures.passed))
 
 pub returns-clause-refused : goal.returns-clause-refused
 returns-clause-refused g c =

@@ -25,4 +25,5 @@ returns-clause-text c =
     ∙ ap (λ bs. bs ++ full_layout_bytes c.args.defaults (config_view c.args.config.now) (data_view c.args.value.now)) c.new-text.ensures.bytes
 
 pub returns-clause-chars : goal.returns-clause-chars
-returns-clause-chars c = sym (chars_from_encodes (full_layout c.args.defaults (config_view c.args.config.now) (data_view c.args.value.now)) _ (IsUtf8-string_bytes c.put_document.new.writer) (sym (returns-clause-text c)))
+returns-clause-chars c = sym (chars_from_encodes (full_layout c.args.defaults (config_view c.args.config.now) (data_view c.args.value.now)) _
+    (IsUtf8-string_bytes c.put_document.new.writer) (sym (returns-clause-text c)))

@@ -12,6 +12,16 @@ loop-c-preserved c =
     let n = longest_hashes (chars c.args.text.now) in
     let k = c.in-Some.ensures.shorter in
     elim c.if-c-eq35.branch [
-      | then-c-eq35+else-prove w ↦ (search rules, (let m = w.run-is in omega (arith, m, k)), longest_more n c.loop-c.longest c.loop-c.run c.if-c-eq35.run c.max-longest.result c.in-Some.c (chars c.loop-c.rest.now) (chars c.in-Some.after.now) c.loop-c.invariant.2 c.in-Some.ensures.chars w.if-c-eq35.true w.run-is c.max-longest.ensures)
-      | else-c-eq35 w ↦ (search rules, (let m = w.run-is in omega (arith, m, k)), longest_other n c.loop-c.longest c.loop-c.run c.if-c-eq35.run c.max-longest.result c.in-Some.c (chars c.loop-c.rest.now) (chars c.in-Some.after.now) c.loop-c.invariant.2 c.in-Some.ensures.chars w.if-c-eq35.false w.run-is c.max-longest.ensures)
+      | then-c-eq35+else-prove w ↦ (
+        search rules,
+        (let m = w.run-is in omega (arith, m, k)),
+        longest_more n c.loop-c.longest c.loop-c.run c.if-c-eq35.run c.max-longest.result c.in-Some.c (chars c.loop-c.rest.now) (chars c.in-Some.after.now)
+            c.loop-c.invariant.2 c.in-Some.ensures.chars w.if-c-eq35.true w.run-is c.max-longest.ensures,
+      )
+      | else-c-eq35 w ↦ (
+        search rules,
+        (let m = w.run-is in omega (arith, m, k)),
+        longest_other n c.loop-c.longest c.loop-c.run c.if-c-eq35.run c.max-longest.result c.in-Some.c (chars c.loop-c.rest.now) (chars c.in-Some.after.now)
+            c.loop-c.invariant.2 c.in-Some.ensures.chars w.if-c-eq35.false w.run-is c.max-longest.ensures,
+      )
     ]

@@ -12,5 +12,7 @@ returns-then-not-needs_raw g c =
 pub returns : goal.returns
 returns g c =
     let took = g.O.Output.puts in
-    piece took _ _ _ _ _ _ (raw_text c.args.text.now c.longest_hashes-longest.result c.utf8.text (sym c.needs_raw.ensures ∙ c.if-not-needs_raw.false) c.longest_hashes-longest.ensures) (one took _ _ _ c.put-2.ensures)
-    (both took _ _ _ _ _ c.write_hashes.ensures (both took _ _ _ _ _ (one took _ _ _ c.put-3.ensures) (both took _ _ _ _ _ (one took _ _ _ c.put-4.ensures) (both took _ _ _ _ _ (one took _ _ _ c.put-5.ensures) c.write_hashes-2.ensures))))
+    piece took _ _ _ _ _ _ (raw_text c.args.text.now c.longest_hashes-longest.result c.utf8.text (sym c.needs_raw.ensures ∙ c.if-not-needs_raw.false)
+    c.longest_hashes-longest.ensures) (one took _ _ _ c.put-2.ensures)
+    (both took _ _ _ _ _ c.write_hashes.ensures (both took _ _ _ _ _ (one took _ _ _ c.put-3.ensures)
+    (both took _ _ _ _ _ (one took _ _ _ c.put-4.ensures) (both took _ _ _ _ _ (one took _ _ _ c.put-5.ensures) c.write_hashes-2.ensures))))

@@ -3,19 +3,25 @@ use Rattle.std.proofs.lemmas.Result.{err_from_is_err_and}
 use Rattle.ron_spec_layout.proofs.ValueWords.{text_scalars}
 use Rattle.ron_data.specs.declared.data.Data.TheVariants as data_
 use Rattle.ron_data.specs.Datum.{data_view}
-use Rattle.ron_data.proofs.DatumLemmas.{view-bool, view-int, view-char, view-str, view-bytes, view-unit, view-none, view-some, view-seq, view-tuple, view-map, view-unit_struct, view-newtype, view-tuple_struct, view-struct, view-variant, view-value, view-raw, view-no_content, view-one, view-items, view-named}
+use Rattle.ron_data.proofs.DatumLemmas.{view-bool, view-int, view-char, view-str, view-bytes, view-unit, view-none, view-some, view-seq, view-tuple, view-map}
+use Rattle.ron_data.proofs.DatumLemmas.{view-unit_struct, view-newtype, view-tuple_struct, view-struct, view-variant, view-value, view-raw, view-no_content}
+use Rattle.ron_data.proofs.DatumLemmas.{view-one, view-items, view-named}
 use Rattle.ron_spec_grammar.specs.Data.{raw_of}
 use Rattle.ron_ser.specs.declared.container.Container.TheVariants as container
 use Rattle.ron_ser.specs.Place.{left, right, inside, within}
 use Rattle.ron_ser.specs.Written.{keeps_at}
 use Rattle.ron_ser.specs.Piece.{value_piece, enclosed, opening, closing}
 use Rattle.ron_ser.proofs.Pieces.{nothing, one}
-use Rattle.ron_ser.proofs.PieceLemmas.{written_eq, stopped_eq, tries_eq, leaf_written, plain_written, behind_stopped, behind_written, enclosed_written, enclosed_stopped, named_written, named_stopped, named_tries, name_stopped, deeper_tries, level_stopped, keyed_written, key_stopped, keyed_stopped, tries_same, ended_written, ended_stopped}
+use Rattle.ron_ser.proofs.PieceLemmas.{written_eq, stopped_eq, tries_eq, leaf_written, plain_written, behind_stopped, behind_written, enclosed_written}
+use Rattle.ron_ser.proofs.PieceLemmas.{enclosed_stopped, named_written, named_stopped, named_tries, name_stopped, deeper_tries, level_stopped, keyed_written}
+use Rattle.ron_ser.proofs.PieceLemmas.{key_stopped, keyed_stopped, tries_same, ended_written, ended_stopped}
 use Rattle.ron_ser.proofs.PlaceLemmas.{before_bytes, behind_bytes}
 use Rattle.ron_ser.proofs.ItemLemmas.{none_stand, all_stand, more_stand, item_stopped}
 use Rattle.ron_ser.proofs.RowLemmas.{inner_piece, items_row, pair_piece, pairs_row, field_piece, fields_row, seen, content_seen}
 use Rattle.ron_ser.proofs.KeepLemmas.{known_for, known_inside, some_kept, newtype_kept, held_kept}
-use Rattle.ron_ser.proofs.DataLemmas.{raw_piece, bool_piece, int_piece, char_piece, str_piece, bytes_piece, unit_piece, none_piece, list_piece, tuple_piece, tuple_struct_piece, map_piece, struct_piece, range_piece, some_piece, kept_piece, dropped_piece, newtype_piece, variant_piece}
+use Rattle.ron_ser.proofs.DataLemmas.{raw_piece, bool_piece, int_piece, char_piece, str_piece, bytes_piece, unit_piece, none_piece, list_piece, tuple_piece}
+use Rattle.ron_ser.proofs.DataLemmas.{tuple_struct_piece, map_piece, struct_piece, range_piece, some_piece, kept_piece, dropped_piece, newtype_piece}
+use Rattle.ron_ser.proofs.DataLemmas.{variant_piece}
 use Rattle.ron_ser.specs.Stand.{place_of}
 use Rattle.ron_ser.proofs.value.+write.Goals as goal
 
@@ -23,36 +29,44 @@ use Rattle.ron_ser.proofs.value.+write.Goals as goal
 
 pub write_piece-returns-in-Bool : goal.write_piece-returns-in-Bool
 write_piece-returns-in-Bool g t c known =
-    written_eq g.O.Output.puts c.args.writing.now.limit (seen _ _ c.in-Bool.is (view-bool _) (bool_piece _ _ _)) (plain_written g.O.Output.puts _ c.write_boolean.ensures)
+    written_eq g.O.Output.puts c.args.writing.now.limit (seen _ _ c.in-Bool.is (view-bool _) (bool_piece _ _ _))
+    (plain_written g.O.Output.puts _ c.write_boolean.ensures)
 
 pub write_piece-returns-in-Int : goal.write_piece-returns-in-Int
 write_piece-returns-in-Int g t c known =
-    written_eq g.O.Output.puts c.args.writing.now.limit (seen _ _ c.in-Int.is (view-int _) (int_piece _ _ _ _)) (plain_written g.O.Output.puts _ (rw c.suffixes_numbers.ensures at c.write_number.ensures))
+    written_eq g.O.Output.puts c.args.writing.now.limit (seen _ _ c.in-Int.is (view-int _) (int_piece _ _ _ _))
+    (plain_written g.O.Output.puts _ (rw c.suffixes_numbers.ensures at c.write_number.ensures))
 
 pub write_piece-returns-in-Char : goal.write_piece-returns-in-Char
 write_piece-returns-in-Char g t c known =
-    written_eq g.O.Output.puts c.args.writing.now.limit (seen _ _ c.in-Char.is (view-char _) (char_piece _ _ _)) (leaf_written g.O.Output.puts _ c.write_character.ensures (search rules))
+    written_eq g.O.Output.puts c.args.writing.now.limit (seen _ _ c.in-Char.is (view-char _) (char_piece _ _ _))
+    (leaf_written g.O.Output.puts _ c.write_character.ensures (search rules))
 
 pub write_piece-returns-in-Str : goal.write_piece-returns-in-Str
 write_piece-returns-in-Str g t c known =
-    written_eq g.O.Output.puts c.args.writing.now.limit (seen _ _ c.in-Str.is (view-str _) (str_piece _ _ _)) (rw (← c.as_str.ensures) (leaf_written g.O.Output.puts _ (rw c.escapes_strings.ensures at c.write_string.ensures) (text_scalars _ c.as_str.utf8)))
+    written_eq g.O.Output.puts c.args.writing.now.limit (seen _ _ c.in-Str.is (view-str _) (str_piece _ _ _))
+    (rw (← c.as_str.ensures) (leaf_written g.O.Output.puts _ (rw c.escapes_strings.ensures at c.write_string.ensures) (text_scalars _ c.as_str.utf8)))
 
 pub write_piece-returns-in-Bytes : goal.write_piece-returns-in-Bytes
 write_piece-returns-in-Bytes g t c known =
     let wrote = c.write_byte_string.ensures in
-    written_eq g.O.Output.puts c.args.writing.now.limit (seen _ _ c.in-Bytes.is (view-bytes _) (bytes_piece _ _ _)) (rw (← c.as_slice.ensures) (leaf_written g.O.Output.puts _ (rw c.escapes_strings-in-Bytes.ensures at wrote.text) wrote.below))
+    written_eq g.O.Output.puts c.args.writing.now.limit (seen _ _ c.in-Bytes.is (view-bytes _) (bytes_piece _ _ _))
+    (rw (← c.as_slice.ensures) (leaf_written g.O.Output.puts _ (rw c.escapes_strings-in-Bytes.ensures at wrote.text) wrote.below))
 
 pub write_piece-returns-in-Unit : goal.write_piece-returns-in-Unit
 write_piece-returns-in-Unit g t c known =
-    written_eq g.O.Output.puts c.args.writing.now.limit (seen _ _ c.in-Unit.is view-unit (unit_piece _ _)) (plain_written g.O.Output.puts _ c.write_unit.ensures)
+    written_eq g.O.Output.puts c.args.writing.now.limit (seen _ _ c.in-Unit.is view-unit (unit_piece _ _))
+    (plain_written g.O.Output.puts _ c.write_unit.ensures)
 
 pub write_piece-returns-in-None : goal.write_piece-returns-in-None
 write_piece-returns-in-None g t c known =
-    written_eq g.O.Output.puts c.args.writing.now.limit (seen _ _ (c.in-Option.is ∙ ap data_.Option c.in-None.is) view-none (none_piece _ _)) (plain_written g.O.Output.puts _ (one g.O.Output.puts _ _ _ (c.put.ensures)))
+    written_eq g.O.Output.puts c.args.writing.now.limit (seen _ _ (c.in-Option.is ∙ ap data_.Option c.in-None.is) view-none (none_piece _ _))
+    (plain_written g.O.Output.puts _ (one g.O.Output.puts _ _ _ (c.put.ensures)))
 
 pub write_piece-returns-in-UnitStruct : goal.write_piece-returns-in-UnitStruct
 write_piece-returns-in-UnitStruct g t c known =
-    tries_eq g.O.Output.puts _ _ _ c.write_unit_struct.result (seen _ _ c.in-UnitStruct.is (view-unit_struct _) refl) (rw c.as_str-in-UnitStruct.ensures.value at c.write_unit_struct.ensures)
+    tries_eq g.O.Output.puts _ _ _ c.write_unit_struct.result (seen _ _ c.in-UnitStruct.is (view-unit_struct _) refl)
+    (rw c.as_str-in-UnitStruct.ensures.value at c.write_unit_struct.ensures)
 
 -- ---- values without a schema
 
@@ -65,21 +79,25 @@ write_piece-returns-in-Value g t c known =
 
 pub write_piece-returns-in-Raw : goal.write_piece-returns-in-Raw
 write_piece-returns-in-Raw g t c known =
-    tries_eq g.O.Output.puts _ _ _ c.write_raw.result (seen _ _ c.in-Raw.is (view-raw _) (ap (λ b. value_piece (place_of c.args.writing.now) c.args.manner.bare (raw_of (chars b))) (sym c.get_ron.ensures.text) ∙ raw_piece _ _ c.get_ron.result.now c.get_ron.utf8)) c.write_raw.ensures
+    tries_eq g.O.Output.puts _ _ _ c.write_raw.result (seen _ _ c.in-Raw.is (view-raw _) (ap (λ b. value_piece (place_of c.args.writing.now) c.args.manner.bare
+    (raw_of (chars b))) (sym c.get_ron.ensures.text) ∙ raw_piece _ _ c.get_ron.result.now c.get_ron.utf8)) c.write_raw.ensures
 
 -- ---- lists, tuples and maps
 
 pub write_piece-returns-in-Seq : goal.write_piece-returns-in-Seq
 write_piece-returns-in-Seq g t c known =
-    tries_eq g.O.Output.puts _ _ _ c.write_items.result (seen _ _ c.in-Seq.is (view-seq _) (list_piece _ _ _)) (rw c.as_slice-in-Seq.ensures.value at c.write_items.ensures)
+    tries_eq g.O.Output.puts _ _ _ c.write_items.result (seen _ _ c.in-Seq.is (view-seq _) (list_piece _ _ _))
+    (rw c.as_slice-in-Seq.ensures.value at c.write_items.ensures)
 
 pub write_piece-returns-in-Tuple : goal.write_piece-returns-in-Tuple
 write_piece-returns-in-Tuple g t c known =
-    tries_eq g.O.Output.puts _ _ _ c.write_items-in-Tuple.result (seen _ _ c.in-Tuple.is (view-tuple _) (tuple_piece _ _ _)) (rw c.as_slice-in-Tuple.ensures.value at c.write_items-in-Tuple.ensures)
+    tries_eq g.O.Output.puts _ _ _ c.write_items-in-Tuple.result (seen _ _ c.in-Tuple.is (view-tuple _) (tuple_piece _ _ _))
+    (rw c.as_slice-in-Tuple.ensures.value at c.write_items-in-Tuple.ensures)
 
 pub write_piece-returns-in-Map : goal.write_piece-returns-in-Map
 write_piece-returns-in-Map g t c known =
-    tries_eq g.O.Output.puts _ _ _ c.write_pairs.result (seen _ _ c.in-Map.is (view-map _) (map_piece _ _ _)) (rw c.as_slice-in-Map.ensures.value at c.write_pairs.ensures)
+    tries_eq g.O.Output.puts _ _ _ c.write_pairs.result (seen _ _ c.in-Map.is (view-map _) (map_piece _ _ _))
+    (rw c.as_slice-in-Map.ensures.value at c.write_pairs.ensures)
 
 -- ---- structs
 
@@ -88,34 +106,40 @@ write_piece-returns-in_err-write_struct_name-in-TupleStruct g t c known =
     let p = err_from_is_err_and c.from_residual.result c.from_residual.ensures.1 in
     let called = c.in_err-write_struct_name-in-TupleStruct.ensures in
     rw (p.1, p.2)
-    (stopped_eq g.O.Output.puts _ (seen _ _ c.in-TupleStruct.is (view-tuple_struct _ _) (tuple_struct_piece _ _ _ _)) (name_stopped g.O.Output.puts _ _ _ _ _ (rw c.as_str-in-TupleStruct.ensures.value at called.refused) called.unchanged))
+    (stopped_eq g.O.Output.puts _ (seen _ _ c.in-TupleStruct.is (view-tuple_struct _ _) (tuple_struct_piece _ _ _ _))
+    (name_stopped g.O.Output.puts _ _ _ _ _ (rw c.as_str-in-TupleStruct.ensures.value at called.refused) called.unchanged))
 
 pub write_piece-returns-in_ok-write_struct_name-in-TupleStruct : goal.write_piece-returns-in_ok-write_struct_name-in-TupleStruct
 write_piece-returns-in_ok-write_struct_name-in-TupleStruct g t c known =
     let name = rw c.as_str-in-TupleStruct.ensures.value at c.in_ok-write_struct_name-in-TupleStruct.ensures.name in
     let text = rw c.as_str-in-TupleStruct.ensures.value at c.in_ok-write_struct_name-in-TupleStruct.ensures.text in
     tries_eq g.O.Output.puts _ _ _ c.write_items-in-TupleStruct.result (seen _ _ c.in-TupleStruct.is (view-tuple_struct _ _) (tuple_struct_piece _ _ _ _))
-    (named_tries g.O.Output.puts _ _ _ _ c.write_items-in-TupleStruct.result text name (rw c.as_slice-in-TupleStruct.ensures.value at c.write_items-in-TupleStruct.ensures))
+    (named_tries g.O.Output.puts _ _ _ _ c.write_items-in-TupleStruct.result text name
+    (rw c.as_slice-in-TupleStruct.ensures.value at c.write_items-in-TupleStruct.ensures))
 
 pub write_piece-returns-in-Struct : goal.write_piece-returns-in-Struct
 write_piece-returns-in-Struct g t c known =
-    tries_eq g.O.Output.puts _ _ _ c.write_struct.result (seen _ _ c.in-Struct.is (view-struct _ _) refl) (rw (c.as_str-in-Struct.ensures.value, c.as_slice-in-Struct.ensures.value) at c.write_struct.ensures)
+    tries_eq g.O.Output.puts _ _ _ c.write_struct.result (seen _ _ c.in-Struct.is (view-struct _ _) refl)
+    (rw (c.as_str-in-Struct.ensures.value, c.as_slice-in-Struct.ensures.value) at c.write_struct.ensures)
 
 pub write_struct-returns-in-Some : goal.write_struct-returns-in-Some
 write_struct-returns-in-Some g t c =
     let took = g.O.Output.puts in
-    written_eq took c.args.writing.now.limit (range_piece (place_of c.args.writing.now) c.args.bare _ _ _ (sym c.in-Some.ensures)) (plain_written took _ (rw c.suffixes_numbers.ensures at c.write_range.ensures))
+    written_eq took c.args.writing.now.limit (range_piece (place_of c.args.writing.now) c.args.bare _ _ _ (sym c.in-Some.ensures))
+    (plain_written took _ (rw c.suffixes_numbers.ensures at c.write_range.ensures))
 
 pub write_struct-returns-in_err-write_struct_name : goal.write_struct-returns-in_err-write_struct_name
 write_struct-returns-in_err-write_struct_name g t c =
     let p = err_from_is_err_and c.from_residual.result c.from_residual.ensures.1 in
     let called = c.in_err-write_struct_name.ensures in
-    rw (p.1, p.2) (stopped_eq g.O.Output.puts _ (struct_piece _ _ _ _ (sym c.in_default.ensures)) (name_stopped g.O.Output.puts _ _ _ _ _ called.refused called.unchanged))
+    rw (p.1, p.2)
+    (stopped_eq g.O.Output.puts _ (struct_piece _ _ _ _ (sym c.in_default.ensures)) (name_stopped g.O.Output.puts _ _ _ _ _ called.refused called.unchanged))
 
 pub write_struct-returns : goal.write_struct-returns
 write_struct-returns g t c =
     let called = c.in_ok-write_struct_name.ensures in
-    tries_eq g.O.Output.puts _ _ _ c.write_fields.result (struct_piece _ _ _ _ (sym c.in_default.ensures)) (named_tries g.O.Output.puts _ _ _ _ c.write_fields.result called.text called.name c.write_fields.ensures)
+    tries_eq g.O.Output.puts _ _ _ c.write_fields.result (struct_piece _ _ _ _ (sym c.in_default.ensures))
+    (named_tries g.O.Output.puts _ _ _ _ c.write_fields.result called.text called.name c.write_fields.ensures)
 
 -- ---- newtypes
 
@@ -129,7 +153,8 @@ pub write_newtype-returns-in_err-write_struct_name : goal.write_newtype-returns-
 write_newtype-returns-in_err-write_struct_name g t c known =
     let p = err_from_is_err_and c.from_residual.result c.from_residual.ensures.1 in
     let called = c.in_err-write_struct_name.ensures in
-    rw (p.1, p.2) (stopped_eq g.O.Output.puts _ (newtype_piece _ _ c.unwraps_newtype-alone.ensures refl refl _ _) (name_stopped g.O.Output.puts _ _ _ _ _ called.refused called.unchanged))
+    rw (p.1, p.2) (stopped_eq g.O.Output.puts _ (newtype_piece _ _ c.unwraps_newtype-alone.ensures refl refl _ _)
+    (name_stopped g.O.Output.puts _ _ _ _ _ called.refused called.unchanged))
 
 pub write_newtype-returns : goal.write_newtype-returns
 write_newtype-returns g t c known =
@@ -155,7 +180,8 @@ write_piece-returns-in_err-write_name-in-Variant g t c known =
     let called = c.in_err-write_name-in-Variant.ensures in
     rw (p.1, p.2)
     (stopped_eq took _ (seen _ _ c.in-Variant.is (view-variant _ _ _) (variant_piece _ _ _ _ _))
-    (named_stopped took _ _ (nothing took _) (rw c.as_str-in-Variant.ensures.value at c.in_ok-check_name-in-Variant.ensures.name) (name_stopped took _ _ _ _ _ (rw c.as_str-in-Variant-2.ensures.value at called.refused) called.unchanged)))
+    (named_stopped took _ _ (nothing took _) (rw c.as_str-in-Variant.ensures.value at c.in_ok-check_name-in-Variant.ensures.name)
+    (name_stopped took _ _ _ _ _ (rw c.as_str-in-Variant-2.ensures.value at called.refused) called.unchanged)))
 
 pub write_piece-returns-in_ok-write_name-in-Variant : goal.write_piece-returns-in_ok-write_name-in-Variant
 write_piece-returns-in_ok-write_name-in-Variant g t c known =
@@ -164,15 +190,18 @@ write_piece-returns-in_ok-write_name-in-Variant g t c known =
     let variant = rw c.as_str-in-Variant-2.ensures.value at c.in_ok-write_name-in-Variant.ensures.name in
     let text = rw c.as_str-in-Variant-2.ensures.value at c.in_ok-write_name-in-Variant.ensures.text in
     tries_eq took _ _ _ c.write_variant.result (seen _ _ c.in-Variant.is (view-variant _ _ _) (variant_piece _ _ _ _ _))
-    (named_tries took _ _ _ _ c.write_variant.result (nothing took _) name (named_tries took _ _ _ _ c.write_variant.result text variant c.write_variant.ensures))
+    (named_tries took _ _ _ _ c.write_variant.result (nothing took _) name
+    (named_tries took _ _ _ _ c.write_variant.result text variant c.write_variant.ensures))
 
 pub write_variant-returns-in-Unit : goal.write_variant-returns-in-Unit
 write_variant-returns-in-Unit g t c =
-    written_eq g.O.Output.puts c.args.writing.now.limit (content_seen _ c.in-Unit.is view-no_content) (plain_written g.O.Output.puts _ (nothing g.O.Output.puts _))
+    written_eq g.O.Output.puts c.args.writing.now.limit (content_seen _ c.in-Unit.is view-no_content)
+    (plain_written g.O.Output.puts _ (nothing g.O.Output.puts _))
 
 pub write_variant-returns-in-Newtype : goal.write_variant-returns-in-Newtype
 write_variant-returns-in-Newtype g t c =
-    tries_eq g.O.Output.puts _ _ _ c.write_content.result (content_seen _ c.in-Newtype.is (view-one _)) ((rw c.deref.ensures at (rw c.unwraps_variants-unwraps.ensures at c.write_content.ensures)) tt)
+    tries_eq g.O.Output.puts _ _ _ c.write_content.result (content_seen _ c.in-Newtype.is (view-one _))
+    ((rw c.deref.ensures at (rw c.unwraps_variants-unwraps.ensures at c.write_content.ensures)) tt)
 
 pub write_variant-returns-in-Tuple : goal.write_variant-returns-in-Tuple
 write_variant-returns-in-Tuple g t c =
@@ -180,14 +209,16 @@ write_variant-returns-in-Tuple g t c =
 
 pub write_variant-returns-in-Struct : goal.write_variant-returns-in-Struct
 write_variant-returns-in-Struct g t c =
-    tries_eq g.O.Output.puts _ _ _ c.write_fields.result (content_seen _ c.in-Struct.is (view-named _)) (rw c.as_slice-in-Struct.ensures.value at c.write_fields.ensures)
+    tries_eq g.O.Output.puts _ _ _ c.write_fields.result (content_seen _ c.in-Struct.is (view-named _))
+    (rw c.as_slice-in-Struct.ensures.value at c.write_fields.ensures)
 
 -- ---- options
 
 pub write_piece-returns-in-Some : goal.write_piece-returns-in-Some
 write_piece-returns-in-Some g t c known =
     let inside = known_for c.args.manner.somes (some_kept (place_of c.args.writing.now) c.args.manner.bare c.in-Option.is c.in-Some.is) known in
-    tries_eq g.O.Output.puts _ _ _ c.write_some.result (seen _ _ (c.in-Option.is ∙ ap data_.Option c.in-Some.is) (view-some _) refl) ((rw c.deref.ensures at c.write_some.ensures) inside)
+    tries_eq g.O.Output.puts _ _ _ c.write_some.result (seen _ _ (c.in-Option.is ∙ ap data_.Option c.in-Some.is) (view-some _) refl)
+    ((rw c.deref.ensures at c.write_some.ensures) inside)
 
 pub write_some-returns-then-not-leaves_somes_out : goal.write_some-returns-then-not-leaves_somes_out
 write_some-returns-then-not-leaves_somes_out g t c known =
@@ -248,12 +279,14 @@ write_field-returns g t c =
     let took = g.O.Output.puts in
     let inner = c.in-Some.ensures in
     let there = c.within-within.ensures.place ∙ ap (within (chars c.args.name.now)) inner.place in
-    deeper_tries took _ _ _ _ c.write_piece.result (inner.level ∙ ap Some (sym c.within-within.ensures.limit)) (tries_same took _ there _ _ _ _ c.write_piece.result (c.write_piece.ensures tt))
+    deeper_tries took _ _ _ _ c.write_piece.result (inner.level ∙ ap Some (sym c.within-within.ensures.limit))
+    (tries_same took _ there _ _ _ _ c.write_piece.result (c.write_piece.ensures tt))
 
 -- ---- the items of a list or a tuple
 
 pub write_items-loop-i-init : goal.write_items-loop-i-init
-write_items-loop-i-init g t c = none_stand (before_bytes (place_of c.args.writing.now) c.args.container) (inner_piece (inside c.args.container (place_of c.args.writing.now))) g.O.Output.puts c.args.writing.now.limit c.args.items.now _
+write_items-loop-i-init g t c = none_stand (before_bytes (place_of c.args.writing.now) c.args.container)
+    (inner_piece (inside c.args.container (place_of c.args.writing.now))) g.O.Output.puts c.args.writing.now.limit c.args.items.now _
 
 pub write_items-returns-in_err-write_item : goal.write_items-returns-in_err-write_item
 write_items-returns-in_err-write_item g t c =
@@ -265,7 +298,8 @@ write_items-returns-in_err-write_item g t c =
     (stopped_eq took _ (ap (λ q. enclosed (left k) q (right k)) (items_row here k c.args.items.now))
     (enclosed_stopped took _ (right k) (one took _ _ _ (rw c.left.ensures at (c.put.ensures)))
     (ended_stopped took _ (behind_bytes here k _)
-    (item_stopped (before_bytes here k) (inner_piece (inside k here)) took _ _ _ _ c.loop-i-test.true c.index-items-i.is c.loop-i.invariant c.write_before.ensures
+    (item_stopped (before_bytes here k) (inner_piece (inside k here)) took _ _ _ _ c.loop-i-test.true c.index-items-i.is c.loop-i.invariant
+    c.write_before.ensures
     c.in_err-write_item.ensures))))
 
 pub write_items-loop-i-preserved : goal.write_items-loop-i-preserved
@@ -290,7 +324,8 @@ write_items-returns g t c =
 -- ---- the pairs of a map
 
 pub write_pairs-loop-i-init : goal.write_pairs-loop-i-init
-write_pairs-loop-i-init g t c = none_stand (before_bytes (place_of c.args.writing.now) container.Map) (pair_piece (inside container.Map (place_of c.args.writing.now))) g.O.Output.puts c.args.writing.now.limit c.args.pairs.now _
+write_pairs-loop-i-init g t c = none_stand (before_bytes (place_of c.args.writing.now) container.Map)
+    (pair_piece (inside container.Map (place_of c.args.writing.now))) g.O.Output.puts c.args.writing.now.limit c.args.pairs.now _
 
 pub write_pairs-returns-in_err-write_item : goal.write_pairs-returns-in_err-write_item
 write_pairs-returns-in_err-write_item g t c =
@@ -301,7 +336,8 @@ write_pairs-returns-in_err-write_item g t c =
     (stopped_eq took _ (ap (λ q. enclosed (codes "{") q (codes "}")) (pairs_row here c.args.pairs.now))
     (enclosed_stopped took _ (codes "}") (one took _ _ _ (c.put.ensures))
     (ended_stopped took _ (behind_bytes here container.Map _)
-    (item_stopped (before_bytes here container.Map) (pair_piece (inside container.Map here)) took _ _ _ _ c.loop-i-test.true c.index-pairs-i.is c.loop-i.invariant c.write_before.ensures
+    (item_stopped (before_bytes here container.Map) (pair_piece (inside container.Map here)) took _ _ _ _ c.loop-i-test.true c.index-pairs-i.is
+    c.loop-i.invariant c.write_before.ensures
     (key_stopped took _ _ _ c.in_err-write_item.ensures)))))
 
 pub write_pairs-returns-in_err-write_item-2 : goal.write_pairs-returns-in_err-write_item-2
@@ -313,14 +349,16 @@ write_pairs-returns-in_err-write_item-2 g t c =
     (stopped_eq took _ (ap (λ q. enclosed (codes "{") q (codes "}")) (pairs_row here c.args.pairs.now))
     (enclosed_stopped took _ (codes "}") (one took _ _ _ (c.put.ensures))
     (ended_stopped took _ (behind_bytes here container.Map _)
-    (item_stopped (before_bytes here container.Map) (pair_piece (inside container.Map here)) took _ _ _ _ c.loop-i-test.true c.index-pairs-i.is c.loop-i.invariant c.write_before.ensures
+    (item_stopped (before_bytes here container.Map) (pair_piece (inside container.Map here)) took _ _ _ _ c.loop-i-test.true c.index-pairs-i.is
+    c.loop-i.invariant c.write_before.ensures
     (keyed_stopped took _ c.in_ok-write_item.ensures c.write_colon.ensures c.in_err-write_item-2.ensures)))))
 
 pub write_pairs-loop-i-preserved : goal.write_pairs-loop-i-preserved
 write_pairs-loop-i-preserved g t c =
     let took = g.O.Output.puts in
     let here = place_of c.args.writing.now in
-    more_stand (before_bytes here container.Map) (pair_piece (inside container.Map here)) took _ _ _ _ c.loop-i-test.true c.index-pairs-i.is c.loop-i.invariant c.write_before.ensures
+    more_stand (before_bytes here container.Map) (pair_piece (inside container.Map here)) took _ _ _ _ c.loop-i-test.true c.index-pairs-i.is c.loop-i.invariant
+    c.write_before.ensures
     (keyed_written took _ c.in_ok-write_item.ensures c.write_colon.ensures c.in_ok-write_item-2.ensures)
 
 pub write_pairs-returns : goal.write_pairs-returns
@@ -330,13 +368,15 @@ write_pairs-returns g t c =
     let f = pair_piece (inside container.Map here) in
     written_eq took _ (ap (λ q. enclosed (codes "{") q (codes "}")) (pairs_row here c.args.pairs.now))
     (enclosed_written took _ (one took _ _ _ (c.put.ensures))
-    (ended_written took _ (all_stand (before_bytes here container.Map) f took _ c.loop-i.i c.args.pairs.now c.loop-i-test.false c.loop-i.invariant) c.write_behind.ensures)
+    (ended_written took _ (all_stand (before_bytes here container.Map) f took _ c.loop-i.i c.args.pairs.now c.loop-i-test.false c.loop-i.invariant)
+    c.write_behind.ensures)
     (one took _ _ _ (c.put-2.ensures)))
 
 -- ---- the fields of a struct
 
 pub write_fields-loop-i-init : goal.write_fields-loop-i-init
-write_fields-loop-i-init g t c = none_stand (before_bytes (place_of c.args.writing.now) (container.Struct c.args.bare)) (field_piece (inside (container.Struct c.args.bare) (place_of c.args.writing.now))) g.O.Output.puts c.args.writing.now.limit c.args.fields.now _
+write_fields-loop-i-init g t c = none_stand (before_bytes (place_of c.args.writing.now) (container.Struct c.args.bare))
+    (field_piece (inside (container.Struct c.args.bare) (place_of c.args.writing.now))) g.O.Output.puts c.args.writing.now.limit c.args.fields.now _
 
 pub write_fields-returns-in_err-write_name : goal.write_fields-returns-in_err-write_name
 write_fields-returns-in_err-write_name g t c =
@@ -349,7 +389,8 @@ write_fields-returns-in_err-write_name g t c =
     (stopped_eq took _ (ap (λ q. enclosed (opening c.args.bare) q (closing c.args.bare)) (fields_row here c.args.bare c.args.fields.now))
     (enclosed_stopped took _ (closing c.args.bare) (one took _ _ _ (rw c.opening.ensures at (c.put.ensures)))
     (ended_stopped took _ (behind_bytes here k _)
-    (item_stopped (before_bytes here k) (field_piece (inside k here)) took _ _ _ _ c.loop-i-test.true c.index-fields-i.is c.loop-i.invariant c.write_before.ensures
+    (item_stopped (before_bytes here k) (field_piece (inside k here)) took _ _ _ _ c.loop-i-test.true c.index-fields-i.is c.loop-i.invariant
+    c.write_before.ensures
     (behind_stopped took _ (rw c.as_str.ensures.value at c.write_doc_comment.ensures)
     (name_stopped took _ _ _ _ _ (rw c.as_str-in-loop-i.ensures.value at called.refused) called.unchanged))))))
 
@@ -365,9 +406,11 @@ write_fields-returns-in_err-write_field g t c =
     (stopped_eq took _ (ap (λ q. enclosed (opening c.args.bare) q (closing c.args.bare)) (fields_row here c.args.bare c.args.fields.now))
     (enclosed_stopped took _ (closing c.args.bare) (one took _ _ _ (rw c.opening.ensures at (c.put.ensures)))
     (ended_stopped took _ (behind_bytes here k _)
-    (item_stopped (before_bytes here k) (field_piece (inside k here)) took _ _ _ _ c.loop-i-test.true c.index-fields-i.is c.loop-i.invariant c.write_before.ensures
+    (item_stopped (before_bytes here k) (field_piece (inside k here)) took _ _ _ _ c.loop-i-test.true c.index-fields-i.is c.loop-i.invariant
+    c.write_before.ensures
     (behind_stopped took _ (rw c.as_str.ensures.value at c.write_doc_comment.ensures)
-    (named_stopped took _ _ text name (behind_stopped took _ c.write_colon.ensures (rw c.as_str-in-loop-i-2.ensures.value at c.in_err-write_field.ensures))))))))
+    (named_stopped took _ _ text name
+    (behind_stopped took _ c.write_colon.ensures (rw c.as_str-in-loop-i-2.ensures.value at c.in_err-write_field.ensures))))))))
 
 pub write_fields-loop-i-preserved : goal.write_fields-loop-i-preserved
 write_fields-loop-i-preserved g t c =

@@ -16,5 +16,6 @@ returns-else-not-is_same-clause-value g c =
     let named = ap chars (sym c.as_str.ensures.value) ∙ same_is (chars c.as_str.result.now) name test in
     let view = struct_view name c.args.from c.in-Struct.found c.in-Struct.fields c.in-Struct.is named in
     IfOk-weaker c.from_fields.result _ _
-    (λ r h. ap (plain.struct_of name) (h ∙ ap (λ (fs : List Field). fields_normal g.R.Row.normals (fields_view fs)) c.into_iter.ensures.rest) ∙ ap (struct_normal g.R.Row.normals) (sym view))
+    (λ r h. ap (plain.struct_of name) (h ∙ ap (λ (fs : List Field). fields_normal g.R.Row.normals (fields_view fs)) c.into_iter.ensures.rest)
+    ∙ ap (struct_normal g.R.Row.normals) (sym view))
     c.from_fields.ensures.value

@@ -15,4 +15,5 @@ pub returns : goal.returns
 returns g c =
     let added = from_nothing _ _ _ _ _ _ c.new-parts.ensures (ap (map field_view) c.in_ok-fields.ensures.items) c.in_ok-add_fields.ensures in
     let names = texts_of c.args.names.now in
-    subst (Makes c.top.result) (struct_topped (string_bytes c.in_ok-from_str.field-0) names g.R.Row.tables c.requires _ _ added ∙ ap (λ name. table_of_struct name names g.R.Row.tables) c.in_ok-from_str.ensures.ok) c.top.ensures
+    subst (Makes c.top.result) (struct_topped (string_bytes c.in_ok-from_str.field-0) names g.R.Row.tables c.requires _ _ added
+    ∙ ap (λ name. table_of_struct name names g.R.Row.tables) c.in_ok-from_str.ensures.ok) c.top.ensures

@@ -8,4 +8,5 @@ top-requires g c = tuple_may_top g.R.Row.tables _ _ (items_from_nothing _ _ _ _ 
 
 pub returns : goal.returns
 returns g c =
-    subst (Makes c.top.result) (tuple_topped g.R.Row.tables _ _ (items_from_nothing _ _ _ _ _ c.new-parts.ensures c.new-roots.ensures.items c.in_ok-add_items.ensures)) c.top.ensures
+    subst (Makes c.top.result)
+    (tuple_topped g.R.Row.tables _ _ (items_from_nothing _ _ _ _ _ c.new-parts.ensures c.new-roots.ensures.items c.in_ok-add_items.ensures)) c.top.ensures

@@ -10,7 +10,8 @@ returns-clause-value g c =
     let name = c.args.name.now in
     let variant = c.args.variant.now in
     let w = with_names name variant _ _ _ _ c.in_ok-own.ensures.0 c.in_ok-own.ensures.1 c.into_variant.ensures in
-    with_view (chars name) (chars variant) _ _ w ∙ ap (variant_of (chars name) (chars variant)) (content-Newtype c.in_ok-held.held ∙ ap one_of (ap data_view c.in_ok-held.ensures.ok ∙ c.in_ok-to_data.ensures.value))
+    with_view (chars name) (chars variant) _ _ w ∙ ap (variant_of (chars name) (chars variant))
+    (content-Newtype c.in_ok-held.held ∙ ap one_of (ap data_view c.in_ok-held.ensures.ok ∙ c.in_ok-to_data.ensures.value))
 
 pub returns-clause-accepted : goal.returns-clause-accepted
 returns-clause-accepted g c =
@@ -18,8 +19,10 @@ returns-clause-accepted g c =
     let variant = c.args.variant.now in
     let w = with_names name variant _ _ _ _ c.in_ok-own.ensures.0 c.in_ok-own.ensures.1 c.into_variant.ensures in
     let P = g.T.Schematic.accepts in
-    with_accepted (chars name) (chars variant) _ _ w (HeldBy g.E.Enum.variants) (c.requires.accepts _ (holds-Newtype P c.in_ok-held.held (subst P (sym c.in_ok-held.ensures.ok) c.in_ok-to_data.ensures.accepted)))
+    with_accepted (chars name) (chars variant) _ _ w (HeldBy g.E.Enum.variants)
+    (c.requires.accepts _ (holds-Newtype P c.in_ok-held.held (subst P (sym c.in_ok-held.ensures.ok) c.in_ok-to_data.ensures.accepted)))
 
 pub returns-clause-of_schema : goal.returns-clause-of_schema
 returns-clause-of_schema g c =
-    newtype_variant_is_of (chars c.args.name.now) (holdings g.E.Enum.variants) (chars c.args.variant.now) g.T.Schematic.schema_is (g.T.Schematic.data c.args.value.now) c.requires.schema c.in_ok-to_data.ensures.of_schema
+    newtype_variant_is_of (chars c.args.name.now) (holdings g.E.Enum.variants) (chars c.args.variant.now) g.T.Schematic.schema_is
+    (g.T.Schematic.data c.args.value.now) c.requires.schema c.in_ok-to_data.ensures.of_schema

@@ -13,7 +13,8 @@ returns-clause-value g c =
     let pushed = c.in_ok-items.ensures.value in
     let items = pushed.items ∙ ap (λ (old : List Data). old ++ pushed.added) c.in_ok-with_capacity.ensures.items in
     let w = with_names name variant _ _ _ _ c.in_ok-own.ensures.0 c.in_ok-own.ensures.1 c.into_variant.ensures in
-    with_view (chars name) (chars variant) _ _ w ∙ ap (variant_of (chars name) (chars variant)) (content-Tuple c.in_ok-items.items ∙ ap items_of (ap items_view items ∙ pushed.value))
+    with_view (chars name) (chars variant) _ _ w
+    ∙ ap (variant_of (chars name) (chars variant)) (content-Tuple c.in_ok-items.items ∙ ap items_of (ap items_view items ∙ pushed.value))
 
 pub returns-clause-accepted : goal.returns-clause-accepted
 returns-clause-accepted g c =
@@ -23,8 +24,10 @@ returns-clause-accepted g c =
     let pushed = c.in_ok-items.ensures.value in
     let items = pushed.items ∙ ap (λ (old : List Data). old ++ pushed.added) c.in_ok-with_capacity.ensures.items in
     let w = with_names name variant _ _ _ _ c.in_ok-own.ensures.0 c.in_ok-own.ensures.1 c.into_variant.ensures in
-    with_accepted (chars name) (chars variant) _ _ w (HeldBy g.E.Enum.variants) (c.requires.accepts _ (holds-Tuple P c.in_ok-items.items (subst P (sym items) pushed.accepted)))
+    with_accepted (chars name) (chars variant) _ _ w (HeldBy g.E.Enum.variants)
+    (c.requires.accepts _ (holds-Tuple P c.in_ok-items.items (subst P (sym items) pushed.accepted)))
 
 pub returns-clause-of_schema : goal.returns-clause-of_schema
 returns-clause-of_schema g c =
-    tuple_variant_is_of (chars c.args.name.now) (holdings g.E.Enum.variants) (chars c.args.variant.now) g.R.BorrowedRow.tables (g.R.BorrowedRow.datas c.args.row) c.requires.schema c.in_ok-items.ensures.of_schema
+    tuple_variant_is_of (chars c.args.name.now) (holdings g.E.Enum.variants) (chars c.args.variant.now) g.R.BorrowedRow.tables
+    (g.R.BorrowedRow.datas c.args.row) c.requires.schema c.in_ok-items.ensures.of_schema

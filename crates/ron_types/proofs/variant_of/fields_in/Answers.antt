@@ -13,7 +13,8 @@ returns-in-Struct-clause-value g c = λ name d i e at.
     let k = named (texts_of c.args.names.now) g.R.Row.tables g.R.Row.accepts_named g.R.Row.normals in
     let view = ap content_view c.in-Struct.is ∙ content-Struct c.in-Struct.fields in
     IfOk-weaker c.from_fields.result _ _
-    (λ r h. kept_in name g.E.Enum.variants c.args.place k c.requires c.args.content d i e at (named_of (named_fields (texts_of c.args.names.now) (g.R.Row.datas r)))
+    (λ r h. kept_in name g.E.Enum.variants c.args.place k c.requires c.args.content d i e
+    at (named_of (named_fields (texts_of c.args.names.now) (g.R.Row.datas r)))
     (ap named_of (h ∙ ap (λ xs. fields_normal g.R.Row.normals (fields_view xs)) c.into_iter.ensures.rest) ∙ sym (ap (keeps k) view)))
     c.from_fields.ensures.value
 
@@ -34,4 +35,5 @@ returns-in_default-clause-value g c = λ name d i e at. tt
 pub returns-in_default-clause-accepted : goal.returns-in_default-clause-accepted
 returns-in_default-clause-accepted g c =
     let k = named (texts_of c.args.names.now) g.R.Row.tables g.R.Row.accepts_named g.R.Row.normals in
-    λ name d i e at one. absurd (not_struct (g.R.Row.accepts_named (texts_of c.args.names.now)) c.args.content c.in_default.not-Struct (held_in name g.E.Enum.variants c.args.place k c.requires c.args.content d i e at one))
+    λ name d i e at one. absurd (not_struct (g.R.Row.accepts_named (texts_of c.args.names.now)) c.args.content c.in_default.not-Struct
+    (held_in name g.E.Enum.variants c.args.place k c.requires c.args.content d i e at one))

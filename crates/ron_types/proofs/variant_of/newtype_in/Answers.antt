@@ -37,4 +37,5 @@ returns-in_default-clause-value g c = λ name d i e at. tt
 pub returns-in_default-clause-accepted : goal.returns-in_default-clause-accepted
 returns-in_default-clause-accepted g c =
     let k = newtype g.T.Schematic.schema_is g.T.Schematic.accepts g.T.Schematic.normal in
-    λ name d i e at one. absurd (not_newtype g.T.Schematic.accepts c.args.content c.in_default.not-Newtype (held_in name g.E.Enum.variants c.args.place k c.requires c.args.content d i e at one))
+    λ name d i e at one. absurd (not_newtype g.T.Schematic.accepts c.args.content c.in_default.not-Newtype
+    (held_in name g.E.Enum.variants c.args.place k c.requires c.args.content d i e at one))

@@ -33,4 +33,5 @@ returns-in_default-clause-value g c = λ name d i e at. tt
 pub returns-in_default-clause-accepted : goal.returns-in_default-clause-accepted
 returns-in_default-clause-accepted g c =
     let k = tuple g.R.Row.tables g.R.Row.accepts g.R.Row.normals in
-    λ name d i e at one. absurd (not_tuple (g.R.Row.accepts) c.args.content c.in_default.not-Tuple (held_in name g.E.Enum.variants c.args.place k c.requires c.args.content d i e at one))
+    λ name d i e at one. absurd
+    (not_tuple (g.R.Row.accepts) c.args.content c.in_default.not-Tuple (held_in name g.E.Enum.variants c.args.place k c.requires c.args.content d i e at one))

@@ -31,4 +31,5 @@ returns-in-Variant-clause-accepted g c = λ h.
       own_is = ap chars (sym c.as_str-in-Variant.ensures.value);
     } in
     let none = subst (λ names. IsNone names (chars c.as_str-in-Variant.result.now)) c.requires c.in-None.ensures.first in
-    absurd (none_held g.E.Enum.variants _ c.in-Variant.content none (with_held (chars c.args.name.now) _ c.in-Variant.content c.args.from is (HeldBy g.E.Enum.variants) h))
+    absurd (none_held g.E.Enum.variants _ c.in-Variant.content none
+    (with_held (chars c.args.name.now) _ c.in-Variant.content c.args.from is (HeldBy g.E.Enum.variants) h))

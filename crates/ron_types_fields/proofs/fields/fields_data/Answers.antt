@@ -12,7 +12,8 @@ use Rattle.ron_types_fields.proofs.fields.fields_data.Goals as goal
 pub returns-clause-value : goal.returns-clause-value
 returns-clause-value g c =
     let pushed = c.in_ok-fields.ensures.value in
-    let items : c.in_ok-fields.fields.items ≡ pushed.added = pushed.fields ∙ ap (λ (old : List Field). old ++ pushed.added) c.in_ok-with_capacity.ensures.items in
+    let items : c.in_ok-fields.fields.items ≡ pushed.added =
+    pushed.fields ∙ ap (λ (old : List Field). old ++ pushed.added) c.in_ok-with_capacity.ensures.items in
     view-Struct c.in_ok-name.name c.in_ok-fields.fields
     ∙ (λ i. plain.struct_of (chars (c.in_ok-name.ensures.ok i)) ((ap fields_view items ∙ pushed.value) i))
 
@@ -20,7 +21,8 @@ pub returns-clause-accepted : goal.returns-clause-accepted
 returns-clause-accepted g c =
     let pushed = c.in_ok-fields.ensures.value in
     let names = names_in c.args.names.now in
-    let items : c.in_ok-fields.fields.items ≡ pushed.added = pushed.fields ∙ ap (λ (old : List Field). old ++ pushed.added) c.in_ok-with_capacity.ensures.items in
+    let items : c.in_ok-fields.fields.items ≡ pushed.added =
+    pushed.fields ∙ ap (λ (old : List Field). old ++ pushed.added) c.in_ok-with_capacity.ensures.items in
     let many = c.requires.as_many ∙ many_data g.R.FieldRow.members (g.R.FieldsToData.lent c.args.values) c.in_ok-fields.ensures.of_schema in
     struct_accepted (chars c.args.name.now) _ c.in_ok-name.name c.in_ok-fields.fields refl (g.R.FieldRow.accepts names) (ap chars c.in_ok-name.ensures.ok)
     (subst (g.R.FieldRow.accepts names) (sym items) (pushed.accepted many (names_apart names c.requires.differ)))
@@ -34,4 +36,5 @@ returns-clause-kept g c =
 
 pub returns-clause-of_schema : goal.returns-clause-of_schema
 returns-clause-of_schema g c =
-    fields_are_of c.args.name.now (names_in c.args.names.now) g.R.FieldRow.members g.R.FieldRow.skips c.requires (g.R.FieldsToData.lent c.args.values) c.in_ok-fields.ensures.of_schema
+    fields_are_of c.args.name.now (names_in c.args.names.now) g.R.FieldRow.members g.R.FieldRow.skips c.requires (g.R.FieldsToData.lent c.args.values)
+    c.in_ok-fields.ensures.of_schema

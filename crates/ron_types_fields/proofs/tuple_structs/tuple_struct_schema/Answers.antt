@@ -16,5 +16,6 @@ returns g c =
     let ts = g.R.Row.tables in
     let adds = items_from_nothing _ _ _ _ _ c.new-parts.ensures c.new-roots.ensures.items c.in_ok-add_items.ensures in
     let name = string_bytes c.in_ok-from_str.field-0 in
-    let is = (λ i. topped (adds.shapes i) (tuple_struct (chars name) (adds.roots i))) ∙ ap (λ (n : List ℕ). table_of_tuple_struct n ts) c.in_ok-from_str.ensures.ok in
+    let is =
+    (λ i. topped (adds.shapes i) (tuple_struct (chars name) (adds.roots i))) ∙ ap (λ (n : List ℕ). table_of_tuple_struct n ts) c.in_ok-from_str.ensures.ok in
     subst (Makes c.top.result) is c.top.ensures

@@ -7,7 +7,8 @@ use Rattle.ron_value.specs.View.{tree_of, pair_tree, map_tree}
 use Rattle.ron_value.proofs.ValueTrees.{tree_of-Map, tree_of-String, tree_of-Bytes, tree_of-Seq}
 use Rattle.ron_value.proofs.ListOrders.{slice_cmp-first_ended, slice_cmp-second_ended}
 use Rattle.ron_value.proofs.compare.+compare.Goals as goal
-use Rattle.ron_value.proofs.compare.+compare.Goals.{compare_items-then-loop-i-test+else-i-others, compare_items-else-loop-i-test, compare_pairs-then-loop-i-test+else-i-others, compare_pairs-else-loop-i-test}
+use Rattle.ron_value.proofs.compare.+compare.Goals.{compare_items-then-loop-i-test+else-i-others, compare_items-else-loop-i-test}
+use Rattle.ron_value.proofs.compare.+compare.Goals.{compare_pairs-then-loop-i-test+else-i-others, compare_pairs-else-loop-i-test}
 
 pub compare_maps-returns : goal.compare_maps-returns
 compare_maps-returns t c = rw (mappings_cmp, c.compare_pairs.ensures, c.deref.ensures.value, c.deref-2.ensures.value) refl
@@ -40,14 +41,18 @@ pub compare_items-returns : goal.compare_items-returns
 compare_items-returns t c =
     let i = c.loop-i.invariant in
     elim c.loop-i-test.branch [
-      | compare_items-then-loop-i-test+else-i-others w ↦ c.cmp.ensures ∙ sym (slice_cmp-second_ended tree_of tree_cmp _ _ c.loop-i.i i.in_items i.in_others (search rules)) ∙ i.rest
-      | compare_items-else-loop-i-test w ↦ c.cmp.ensures ∙ sym (slice_cmp-first_ended tree_of tree_cmp _ _ c.loop-i.i i.in_items i.in_others (search rules)) ∙ i.rest
+      | compare_items-then-loop-i-test+else-i-others w ↦ c.cmp.ensures
+          ∙ sym (slice_cmp-second_ended tree_of tree_cmp _ _ c.loop-i.i i.in_items i.in_others (search rules)) ∙ i.rest
+      | compare_items-else-loop-i-test w ↦ c.cmp.ensures ∙ sym (slice_cmp-first_ended tree_of tree_cmp _ _ c.loop-i.i i.in_items i.in_others (search rules))
+          ∙ i.rest
     ]
 
 pub compare_pairs-returns : goal.compare_pairs-returns
 compare_pairs-returns t c =
     let i = c.loop-i.invariant in
     elim c.loop-i-test.branch [
-      | compare_pairs-then-loop-i-test+else-i-others w ↦ c.cmp.ensures ∙ sym (slice_cmp-second_ended pair_tree pair_cmp _ _ c.loop-i.i i.in_pairs i.in_others (search rules)) ∙ i.rest
-      | compare_pairs-else-loop-i-test w ↦ c.cmp.ensures ∙ sym (slice_cmp-first_ended pair_tree pair_cmp _ _ c.loop-i.i i.in_pairs i.in_others (search rules)) ∙ i.rest
+      | compare_pairs-then-loop-i-test+else-i-others w ↦ c.cmp.ensures
+          ∙ sym (slice_cmp-second_ended pair_tree pair_cmp _ _ c.loop-i.i i.in_pairs i.in_others (search rules)) ∙ i.rest
+      | compare_pairs-else-loop-i-test w ↦ c.cmp.ensures ∙ sym (slice_cmp-first_ended pair_tree pair_cmp _ _ c.loop-i.i i.in_pairs i.in_others (search rules))
+          ∙ i.rest
     ]

@@ -4,7 +4,8 @@ use Rattle.std.specs.Ordering.{eq_by_cmp, is_eq}
 use Rattle.std.proofs.lemmas.Cmp.{tied_itself}
 use Rattle.ron_value.specs.Tree.{Tree}
 use Rattle.ron_value.specs.Order.{tree_cmp}
-use Rattle.ron_value.specs.OrderLaws.{tree_cmp_total, tree_eq_same, booleans_cmp, characters_cmp, mappings_cmp, numbers_cmp, somes_cmp, texts_cmp, bytes_cmp, sequences_cmp}
+use Rattle.ron_value.specs.OrderLaws.{tree_cmp_total, tree_eq_same, booleans_cmp, characters_cmp, mappings_cmp, numbers_cmp, somes_cmp, texts_cmp, bytes_cmp}
+use Rattle.ron_value.specs.OrderLaws.{sequences_cmp}
 use Rattle.ron_value.specs.View.{tree_of, map_tree}
 use Rattle.ron_value.proofs.laws.values_are_ordered.Goals as goal
 

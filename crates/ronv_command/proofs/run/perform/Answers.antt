@@ -11,4 +11,5 @@ returns-clause-kept g c = λ none. absurd (none _ c.in_ok-written.ensures.text)
 pub returns-clause-fault : goal.returns-clause-fault
 returns-clause-fault g c =
     mapped_err (IsFaultOf c.args.command (g.R.Read.remaining c.args.input.now)) _ c.writeln.result c.map_err.result c.map_err.ensures.cases
-    (λ e f was is. subst (IsFaultOf c.args.command (g.R.Read.remaining c.args.input.now)) (sym is) (chars (string_bytes c.in_ok-written.written), c.in_ok-written.ensures.text))
+    (λ e f was is. subst (IsFaultOf c.args.command (g.R.Read.remaining c.args.input.now)) (sym is)
+    (chars (string_bytes c.in_ok-written.written), c.in_ok-written.ensures.text))

@@ -15,13 +15,24 @@ returns-else-is_at_end-clause-ok c fresh =
     rw (← c.self.view_is) (λ h. cc, λ g. absurd (not_ended _ _ c.in_default.ensures.rest (sym c.is_at_end.ensures ∙ c.if-is_at_end.false) g))
 
 pub returns-in-Err-clause-turns : goal.returns-in-Err-clause-turns
-returns-in-Err-clause-turns c k = rw (← c.self.view_is) (end_within k _ c.self.inside.cursor c.pass_gap.result c.pass_gap.new.cursor (record { text = refl; rest = refl; gap = refl; turns = refl; expected = refl }) c.pass_gap.ensures.turns (omega (arith, c.turns-turns.ensures.value, c.turns-turns.ensures.most)) c.pass_gap.ensures.text)
+returns-in-Err-clause-turns c k = rw (← c.self.view_is) (end_within k _ c.self.inside.cursor c.pass_gap.result c.pass_gap.new.cursor
+    (record { text = refl; rest = refl; gap = refl; turns = refl; expected = refl }) c.pass_gap.ensures.turns
+    (omega (arith, c.turns-turns.ensures.value, c.turns-turns.ensures.most)) c.pass_gap.ensures.text)
 
 pub returns-then-is_at_end-clause-turns : goal.returns-then-is_at_end-clause-turns
-returns-then-is_at_end-clause-turns c k = rw (← c.self.view_is) (end_within k _ c.self.inside.cursor c.pass_gap.result c.pass_gap.new.cursor (record { text = refl; rest = refl; gap = refl; turns = refl; expected = refl }) c.pass_gap.ensures.turns (omega (arith, c.turns-turns-2.ensures.value, c.turns-turns-2.ensures.most)) c.pass_gap.ensures.text)
+returns-then-is_at_end-clause-turns c k = rw (← c.self.view_is) (end_within k _ c.self.inside.cursor c.pass_gap.result c.pass_gap.new.cursor
+    (record { text = refl; rest = refl; gap = refl; turns = refl; expected = refl }) c.pass_gap.ensures.turns
+    (omega (arith, c.turns-turns-2.ensures.value, c.turns-turns-2.ensures.most)) c.pass_gap.ensures.text)
 
 pub returns-else-is_at_end-clause-turns : goal.returns-else-is_at_end-clause-turns
-returns-else-is_at_end-clause-turns c k = rw (← c.self.view_is) (end_within k _ c.self.inside.cursor c.pass_gap.result c.pass_gap.new.cursor (record { text = refl; rest = refl; gap = refl; turns = refl; expected = refl }) c.pass_gap.ensures.turns (omega (arith, c.turns-turns-2.ensures.value, c.turns-turns-2.ensures.most)) c.pass_gap.ensures.text)
+returns-else-is_at_end-clause-turns c k = rw (← c.self.view_is) (end_within k _ c.self.inside.cursor c.pass_gap.result c.pass_gap.new.cursor
+    (record { text = refl; rest = refl; gap = refl; turns = refl; expected = refl }) c.pass_gap.ensures.turns
+    (omega (arith, c.turns-turns-2.ensures.value, c.turns-turns-2.ensures.most)) c.pass_gap.ensures.text)
 
 pub returns-then-is_at_end-clause-least : goal.returns-then-is_at_end-clause-least
-returns-then-is_at_end-clause-least c = omega (arith, c.turns-turns-2.ensures.value, c.turns-turns-2.ensures.least, ended_text c.pass_gap.new.cursor.rest (sym c.is_at_end.ensures ∙ c.if-is_at_end.true))
+returns-then-is_at_end-clause-least c = omega (
+  arith,
+  c.turns-turns-2.ensures.value,
+  c.turns-turns-2.ensures.least,
+  ended_text c.pass_gap.new.cursor.rest (sym c.is_at_end.ensures ∙ c.if-is_at_end.true),
+)

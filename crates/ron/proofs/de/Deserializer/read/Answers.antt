@@ -8,4 +8,5 @@ pub returns-clause-slices : goal.returns-clause-slices
 returns-clause-slices c = c.read_kept.ensures.slices (rw (← c.self.view_is) (ap Some c.text-source.ensures))
 
 pub returns-clause-errors : goal.returns-clause-errors
-returns-clause-errors c fresh = value_refused (source_view (Some c.text-source.result)) c.args.self.now (table_of c.args.schema.now) c.read_kept.result (rw (← c.self.view_is) (ap Some c.text-source.ensures)) (c.read_kept.ensures.errors fresh)
+returns-clause-errors c fresh = value_refused (source_view (Some c.text-source.result)) c.args.self.now (table_of c.args.schema.now) c.read_kept.result
+    (rw (← c.self.view_is) (ap Some c.text-source.ensures)) (c.read_kept.ensures.errors fresh)

@@ -26,16 +26,20 @@ pub returns-clause-of_schema : goal.returns-clause-of_schema
 returns-clause-of_schema c = of_schema c.args.self.now (table_of c.args.schema.now) _ _ (rw c.root.ensures.value at c.root.ensures.well_formed) (answers c)
 
 pub returns-clause-slices : goal.returns-clause-slices
-returns-clause-slices c = rw c.forget_gap.ensures.rest (rw (← c.self.view_is) (sliced_from _ _ _ c.read_here-answer.result (rw c.new-context.ensures at c.read_here-answer.ensures.slice) (rw c.new-context.ensures at c.read_here-answer.ensures.advance.holds)))
+returns-clause-slices c = rw c.forget_gap.ensures.rest (rw (← c.self.view_is) (sliced_from _ _ _ c.read_here-answer.result
+    (rw c.new-context.ensures at c.read_here-answer.ensures.slice) (rw c.new-context.ensures at c.read_here-answer.ensures.advance.holds)))
 
 pub returns-clause-spelled : goal.returns-clause-spelled
-returns-clause-spelled c fresh = answers_spelled c.args.self.now (table_of c.args.schema.now) (no_cycle_in (table_of c.args.schema.now) c.args.schema.now.well_formed) _ _ (answers c)
+returns-clause-spelled c fresh =
+    answers_spelled c.args.self.now (table_of c.args.schema.now) (no_cycle_in (table_of c.args.schema.now) c.args.schema.now.well_formed) _ _ (answers c)
 
 pub returns-clause-deep : goal.returns-clause-deep
 returns-clause-deep c fresh = refuses_deep c.args.self.now (table_of c.args.schema.now) _ _ (answers c)
 
 pub returns-clause-errors : goal.returns-clause-errors
-returns-clause-errors c fresh = tells (source_view c.args.source) c.args.self.now (table_of c.args.schema.now) (no_cycle_in (table_of c.args.schema.now) c.args.schema.now.well_formed) _ _ (answers c) c.read_here-answer.ensures.advance.fault (refused c) (string_refused c)
+returns-clause-errors c fresh =
+    tells (source_view c.args.source) c.args.self.now (table_of c.args.schema.now) (no_cycle_in (table_of c.args.schema.now) c.args.schema.now.well_formed) _ _
+    (answers c) c.read_here-answer.ensures.advance.fault (refused c) (string_refused c)
 
 pub returns-clause-bytes : goal.returns-clause-bytes
 returns-clause-bytes c fresh = rw (← c.self.view_is) (rw (c.new-context.ensures, c.root.ensures.value) at c.read_here-answer.ensures.bytes)
@@ -46,4 +50,8 @@ returns-clause-turns c made fresh =
     let root = root_of c.args.schema.now in
     let head = rw (← c.self.view_is) at made in
     let reads = (rw (c.new-context.ensures, c.root.ensures.value) at c.read_here-answer.ensures.turns) head.leads in
-    kept (chain schema) (rank schema root + 3) (root_looks schema root (rw c.root.ensures.value at c.root.ensures.well_formed)) _ head c.self.inside.cursor (record { text = refl; rest = refl; gap = refl; turns = refl; expected = refl }) c.read_here-answer.result c.read_here-answer.new.cursor c.forget_gap.new.self _ reads c.forget_gap.ensures.rest (omega (arith, c.forget_gap.ensures.turns)) (omega (arith, c.turns-turns.ensures.value, c.turns-turns.ensures.most)) (record { text = refl; rest = refl; gap = refl; turns = refl; expected = refl }) (c.forget_gap.ensures.text ∙ c.read_here-answer.ensures.advance.text)
+    kept (chain schema) (rank schema root + 3) (root_looks schema root (rw c.root.ensures.value at c.root.ensures.well_formed)) _ head c.self.inside.cursor
+    (record { text = refl; rest = refl; gap = refl; turns = refl; expected = refl }) c.read_here-answer.result c.read_here-answer.new.cursor
+    c.forget_gap.new.self _ reads c.forget_gap.ensures.rest (omega (arith, c.forget_gap.ensures.turns))
+    (omega (arith, c.turns-turns.ensures.value, c.turns-turns.ensures.most)) (record { text = refl; rest = refl; gap = refl; turns = refl; expected = refl })
+    (c.forget_gap.ensures.text ∙ c.read_here-answer.ensures.advance.text)

@@ -9,4 +9,13 @@ returns g c =
     let options = c.args.self.now in
     let wrote = c.to_string_data.ensures in
     subst (λ (d : plain.Data). WritesText options.default_extensions options.recursion_limit no_config d c.to_string_data.result) c.in_ok-data.ensures.value
-    (record { text = wrote.text; reads_back = wrote.reads_back; blank = wrote.blank; names = wrote.names; encodable = wrote.encodable; within = wrote.within; refused = wrote.refused; refused_name = wrote.refused_name })
+    (record {
+      text = wrote.text;
+      reads_back = wrote.reads_back;
+      blank = wrote.blank;
+      names = wrote.names;
+      encodable = wrote.encodable;
+      within = wrote.within;
+      refused = wrote.refused;
+      refused_name = wrote.refused_name;
+    })

@@ -12,5 +12,6 @@ returns-clause-reads_back c =
     let x = c.args.self.now.default_extensions in
     let d = data_view c.args.value.now in
     let called = c.to_string.ensures in
-    subst (λ k. IfOk c.to_string.result (λ s. is_encodable (extensions_under x k).implicit_some d ≡ true → EndsDocs k d → SpellsNormalForm x k d (chars (string_bytes s)))) c.given-config.ensures
+    subst (λ k. IfOk c.to_string.result
+    (λ s. is_encodable (extensions_under x k).implicit_some d ≡ true → EndsDocs k d → SpellsNormalForm x k d (chars (string_bytes s)))) c.given-config.ensures
     (normal_form x (config_view c.given-config.result) d c.to_string.result called.chars called.blank called.names)

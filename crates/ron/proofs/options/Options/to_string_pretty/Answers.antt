@@ -8,5 +8,15 @@ pub returns : goal.returns
 returns g c =
     let options = c.args.self.now in
     let wrote = c.to_string_data.ensures in
-    subst (λ (d : plain.Data). WritesText options.default_extensions options.recursion_limit (config_view c.args.config) d c.to_string_data.result) c.in_ok-data.ensures.value
-    (record { text = wrote.text; reads_back = wrote.reads_back; blank = wrote.blank; names = wrote.names; encodable = wrote.encodable; within = wrote.within; refused = wrote.refused; refused_name = wrote.refused_name })
+    subst (λ (d : plain.Data). WritesText options.default_extensions options.recursion_limit (config_view c.args.config) d c.to_string_data.result)
+    c.in_ok-data.ensures.value
+    (record {
+      text = wrote.text;
+      reads_back = wrote.reads_back;
+      blank = wrote.blank;
+      names = wrote.names;
+      encodable = wrote.encodable;
+      within = wrote.within;
+      refused = wrote.refused;
+      refused_name = wrote.refused_name;
+    })

@@ -9,7 +9,8 @@ found : (c : goal.In_ok-flags) → Some c.in_ok-flags.flags.0 ≡ find_name tabl
 found c = c.in_ok-flags.ensures tt
 
 pub returns-in_err-flags : goal.returns-in_err-flags
-returns-in_err-flags c = c.from_residual.ensures ∙ (ap (option_map set_of_bits) (c.in_err-flags.ensures tt) ∙ option_map-find_name c.args.ident.now) ∙ by_characters c.args.ident.now c.utf8.ident
+returns-in_err-flags c = c.from_residual.ensures ∙ (ap (option_map set_of_bits) (c.in_err-flags.ensures tt) ∙ option_map-find_name c.args.ident.now)
+    ∙ by_characters c.args.ident.now c.utf8.ident
 
 pub invariant_of-result : goal.invariant_of-result
 invariant_of-result c = find_name-lt c.args.ident.now c.in_ok-flags.flags.0 (found c)

@@ -16,7 +16,9 @@ pub returns-clause-slots : goal.returns-clause-slots
 returns-clause-slots c =
     let turn : c.len-turn.result ≡ length c.args.self.now.in_turn.items = omega (arith, c.len-turn.ensures, c.args.self.now.in_turn.ok.0) in
     let behind = free_behind c.args.self.now.in_turn.items c.args.self.now.others.items c.args.index c.requires.free.1 in
-    let within : c.args.index - c.len-turn.result < length c.add_empty.new.slots.items = omega (arith, c.in_ok-add_empty.ensures.len, c.add_empty.new.slots.ok.0) in
-    put_other (length c.args.list.now.fields.items) c.args.self.now.in_turn.items c.args.self.now.others.items c.add_empty.new.slots.items _ c.args.index c.args.value c.requires.free.0 behind c.in_ok-add_empty.ensures.slots
+    let within : c.args.index - c.len-turn.result < length c.add_empty.new.slots.items =
+    omega (arith, c.in_ok-add_empty.ensures.len, c.add_empty.new.slots.ok.0) in
+    put_other (length c.args.list.now.fields.items) c.args.self.now.in_turn.items c.args.self.now.others.items c.add_empty.new.slots.items _ c.args.index
+    c.args.value c.requires.free.0 behind c.in_ok-add_empty.ensures.slots
     (subst (λ (k : ℕ). c.args.index - k < length c.add_empty.new.slots.items) turn within)
     (ap (λ (k : ℕ). set c.add_empty.new.slots.items (c.args.index - k) (Some c.args.value)) turn)

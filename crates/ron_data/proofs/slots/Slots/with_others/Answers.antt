@@ -11,15 +11,29 @@ use Rattle.ron_data.proofs.slots.Slots.with_others.Goals as goal
 
 pub slice_bounds-behind-start : goal.slice_bounds-behind-start
 slice_bounds-behind-start c =
-    let le : c.len.result ≤ length c.as_slice.result.now = omega (arith, named_within c.args.list.now.fields.items c.args.self.in_turn.items c.requires.named.0, c.len.ensures, c.args.self.in_turn.ok.0, ap length c.as_slice.ensures.value) in le
+    let le : c.len.result ≤ length c.as_slice.result.now = omega (
+      arith,
+      named_within c.args.list.now.fields.items c.args.self.in_turn.items c.requires.named.0,
+      c.len.ensures,
+      c.args.self.in_turn.ok.0,
+      ap length c.as_slice.ensures.value,
+    ) in
+    le
 
 pub slice_bounds-behind-count : goal.slice_bounds-behind-count
-slice_bounds-behind-count c = omega (arith, named_within c.args.list.now.fields.items c.args.self.in_turn.items c.requires.named.0, c.len.ensures, c.args.self.in_turn.ok.0, ap length c.as_slice.ensures.value)
+slice_bounds-behind-count c = omega (
+  arith,
+  named_within c.args.list.now.fields.items c.args.self.in_turn.items c.requires.named.0,
+  c.len.ensures,
+  c.args.self.in_turn.ok.0,
+  ap length c.as_slice.ensures.value,
+)
 
 pub loop-field-init : goal.loop-field-init
 loop-field-init c =
     let turn : c.len.result ≡ length c.args.self.in_turn.items = omega (arith, c.len.ensures, c.args.self.in_turn.ok.0) in
-    let behind = all_behind c.len.result c.as_slice.result.now ∙ ap (drop c.len.result) c.as_slice.ensures.value ∙ ap (λ (k : ℕ). drop k c.args.list.now.fields.items) turn in
+    let behind = all_behind c.len.result c.as_slice.result.now ∙ ap (drop c.len.result) c.as_slice.ensures.value
+    ∙ ap (λ (k : ℕ). drop k c.args.list.now.fields.items) turn in
     made_in_turn c.args.list.now.fields.items _ c.args.self.in_turn.items c.args.self.others.items _ c.requires.named.0 behind c.into_iter-others.ensures.rest
 
 pub loop-field-preserved-in_default : goal.loop-field-preserved-in_default
@@ -27,9 +41,11 @@ loop-field-preserved-in_default c =
     let behind : List FieldShape = take (length c.as_slice.result.now - c.len.result) (drop c.len.result c.as_slice.result.now) in
     let i = c.loop-field.field-index in
     let field = c.field-item.result in
-    let here : drop i behind ≡ field ∷ drop (i + 1) behind = drop_more behind i field (omega (arith, c.loop-field-test.true)) ∙ ap (λ (f : FieldShape). f ∷ drop (i + 1) behind) (sym c.field-item.is) in
+    let here : drop i behind ≡ field ∷ drop (i + 1) behind =
+    drop_more behind i field (omega (arith, c.loop-field-test.true)) ∙ ap (λ (f : FieldShape). f ∷ drop (i + 1) behind) (sym c.field-item.is) in
     made_without _ _ _ _ _ c.loop-field.invariant _ _ field c.next.result _ here
-    (next_slot (into_iter_items c.loop-field.others) (into_iter_items c.next.new.self) (into_iter_len c.loop-field.others) (into_iter_len c.next.new.self) c.next.result (omega (arith, c.loop-field.others.rest.ok.0)) (omega (arith, c.next.new.self.rest.ok.0)) c.next.ensures.cases)
+    (next_slot (into_iter_items c.loop-field.others) (into_iter_items c.next.new.self) (into_iter_len c.loop-field.others) (into_iter_len c.next.new.self)
+    c.next.result (omega (arith, c.loop-field.others.rest.ok.0)) (omega (arith, c.next.new.self.rest.ok.0)) c.next.ensures.cases)
     c.flatten.ensures c.in_default.is c.in_ok-leave_out.ensures
 
 pub loop-field-preserved : goal.loop-field-preserved
@@ -37,9 +53,11 @@ loop-field-preserved c =
     let behind : List FieldShape = take (length c.as_slice.result.now - c.len.result) (drop c.len.result c.as_slice.result.now) in
     let i = c.loop-field.field-index in
     let field = c.field-item.result in
-    let here : drop i behind ≡ field ∷ drop (i + 1) behind = drop_more behind i field (omega (arith, c.loop-field-test.true)) ∙ ap (λ (f : FieldShape). f ∷ drop (i + 1) behind) (sym c.field-item.is) in
+    let here : drop i behind ≡ field ∷ drop (i + 1) behind =
+    drop_more behind i field (omega (arith, c.loop-field-test.true)) ∙ ap (λ (f : FieldShape). f ∷ drop (i + 1) behind) (sym c.field-item.is) in
     made_more _ _ _ _ _ c.loop-field.invariant _ _ field c.next.result _ here
-    (next_slot (into_iter_items c.loop-field.others) (into_iter_items c.next.new.self) (into_iter_len c.loop-field.others) (into_iter_len c.next.new.self) c.next.result (omega (arith, c.loop-field.others.rest.ok.0)) (omega (arith, c.next.new.self.rest.ok.0)) c.next.ensures.cases)
+    (next_slot (into_iter_items c.loop-field.others) (into_iter_items c.next.new.self) (into_iter_len c.loop-field.others) (into_iter_len c.next.new.self)
+    c.next.result (omega (arith, c.loop-field.others.rest.ok.0)) (omega (arith, c.next.new.self.rest.ok.0)) c.next.ensures.cases)
     c.flatten.ensures _ _ _ c.in-Some.is (c.in_ok-name.ensures.ok ∙ c.as_str.ensures.value) c.in_ok-push.ensures.items
 
 pub returns-clause-value : goal.returns-clause-value
@@ -49,4 +67,5 @@ returns-clause-value c =
     all_made _ _ _ _ _ c.loop-field.invariant over ∙ ap (λ made. Some (fields_view made)) (sym c.give_up_room.ensures)
 
 pub returns-clause-parts : goal.returns-clause-parts
-returns-clause-parts c = subst (All (λ f. Contains (slots_in c.args.list.now.fields.items c.args.self) (Some f.1))) (sym c.give_up_room.ensures) c.loop-field.invariant.parts
+returns-clause-parts c =
+    subst (All (λ f. Contains (slots_in c.args.list.now.fields.items c.args.self) (Some f.1))) (sym c.give_up_room.ensures) c.loop-field.invariant.parts

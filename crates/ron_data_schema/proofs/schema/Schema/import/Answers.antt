@@ -13,5 +13,6 @@ append_moved-requires c =
     let other = c.args.other.now.shapes in
     let in_range = (and_parts (is_in_range table c.args.other.now.root) _ c.args.other.now.well_formed).0 in
     let below = (and_parts (nat_lt c.args.other.now.root (length table)) _ in_range).1 in
-    let le : length table ≤ indices_from (length one.items) = omega (arith, length-map other.items shape_view, one.ok.0, one.ok.1, one.small, other.ok.0, other.ok.1, other.small) in
+    let le : length table ≤ indices_from (length one.items) =
+    omega (arith, length-map other.items shape_view, one.ok.0, one.ok.1, one.small, other.ok.0, other.ok.1, other.small) in
     rw c.deref.ensures.value (table_more (length table) (indices_from (length one.items)) le table below)

@@ -7,17 +7,20 @@ use Rattle.ron_data_schema.proofs.TableLemmas.{looked_up}
 use Rattle.ron_data_schema.proofs.schema.Schema.shape.Goals as goal
 
 module _ (shapes : List Shape) (root i : ℕ) where
-  in_range : (r : Option (Bor Shape)) → is_well_formed (table_view shapes) root ≡ true → is_some r ≡ nat_lt i (length shapes) → IfSome r (λ s. s.now ≡ get_or shapes i s.now)
+  in_range : (r : Option (Bor Shape)) → is_well_formed (table_view shapes) root ≡ true → is_some r ≡ nat_lt i (length shapes)
+      → IfSome r (λ s. s.now ≡ get_or shapes i s.now)
       → IfSome r (λ s. holds_below (length (table_view shapes)) (shape_view s.now) ≡ true)
   in_range None w lt e = tt
   in_range (Some s) w lt e = (looked_up shapes root i s.now w lt e).0
 
-  distinct : (r : Option (Bor Shape)) → is_well_formed (table_view shapes) root ≡ true → is_some r ≡ nat_lt i (length shapes) → IfSome r (λ s. s.now ≡ get_or shapes i s.now)
+  distinct : (r : Option (Bor Shape)) → is_well_formed (table_view shapes) root ≡ true → is_some r ≡ nat_lt i (length shapes)
+      → IfSome r (λ s. s.now ≡ get_or shapes i s.now)
       → IfSome r (λ s. has_distinct_names (shape_view s.now) ≡ true)
   distinct None w lt e = tt
   distinct (Some s) w lt e = (looked_up shapes root i s.now w lt e).1
 
-  falls : (r : Option (Bor Shape)) → is_well_formed (table_view shapes) root ≡ true → is_some r ≡ nat_lt i (length shapes) → IfSome r (λ s. s.now ≡ get_or shapes i s.now)
+  falls : (r : Option (Bor Shape)) → is_well_formed (table_view shapes) root ≡ true → is_some r ≡ nat_lt i (length shapes)
+      → IfSome r (λ s. s.now ≡ get_or shapes i s.now)
       → IfSome r (λ s. IsOneLonger (table_view shapes) i (content_of (shape_view s.now)))
   falls None w lt e = tt
   falls (Some s) w lt e = (looked_up shapes root i s.now w lt e).2

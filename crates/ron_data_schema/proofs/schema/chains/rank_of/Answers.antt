@@ -8,7 +8,8 @@ use Rattle.ron_data_schema.proofs.schema.chains.rank_of.Goals.{then-left-eq0-via
 
 pub loop-content-preserved : goal.loop-content-preserved
 loop-content-preserved c =
-    let e : content_at (table_view c.args.shapes.now) c.loop-content.at ≡ Some c.in-Some.content = content_here _ _ _ c.loop-content.invariant.here c.index-shapes-at.is ∙ sym c.in-Some.ensures in
+    let e : content_at (table_view c.args.shapes.now) c.loop-content.at ≡ Some c.in-Some.content =
+    content_here _ _ _ c.loop-content.invariant.here c.index-shapes-at.is ∙ sym c.in-Some.ensures in
     record {
       here = next_below _ _ _ _ c.requires.holds c.loop-content.invariant.here c.index-shapes-at.is (sym c.in-Some.ensures);
       within = omega arith;
@@ -18,7 +19,8 @@ loop-content-preserved c =
 pub returns-then-left-eq0 : goal.returns-then-left-eq0
 returns-then-left-eq0 c =
     let table = table_view c.args.shapes.now in
-    let e : content_at (table_view c.args.shapes.now) c.loop-content.at ≡ Some c.in-Some.content = content_here _ _ _ c.loop-content.invariant.here c.index-shapes-at.is ∙ sym c.in-Some.ensures in
+    let e : content_at (table_view c.args.shapes.now) c.loop-content.at ≡ Some c.in-Some.content =
+    content_here _ _ _ c.loop-content.invariant.here c.index-shapes-at.is ∙ sym c.in-Some.ensures in
     let known = slice_index c.args.ranks.now c.loop-content.at in
     elim c.then-left-eq0.branch [
       | then-left-eq0-via-then-left-eq0 w ↦
@@ -30,5 +32,6 @@ returns-then-left-eq0 c =
 
 pub returns : goal.returns
 returns c =
-    let e : content_at (table_view c.args.shapes.now) c.loop-content.at ≡ None = content_here _ _ _ c.loop-content.invariant.here c.index-shapes-at.is ∙ sym c.in_default.ensures in
+    let e : content_at (table_view c.args.shapes.now) c.loop-content.at ≡ None =
+    content_here _ _ _ c.loop-content.invariant.here c.index-shapes-at.is ∙ sym c.in_default.ensures in
     (c.loop-content.invariant.within, ends_here _ _ _ _ e c.loop-content.invariant.goes_on)

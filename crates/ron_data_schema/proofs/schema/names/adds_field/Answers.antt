@@ -19,4 +19,5 @@ returns-then-not-branch-2 c behind =
 pub loop-alias-preserved : goal.loop-alias-preserved
 loop-alias-preserved c behind =
     c.loop-alias.invariant behind ∙ ap (λ ns. are_new (seen_in c.loop-alias.seen) (ns ++ behind)) c.in-Some.ensures.cases.0
-    ∙ name_new _ c.as_str-in-Some.result c.in-Some.alias.now _ c.as_str-in-Some.ensures.value c.in_ok-insert-2.ensures.added c.if-not-branch-2.false c.in_ok-insert-2.ensures.keys
+    ∙ name_new _ c.as_str-in-Some.result c.in-Some.alias.now _ c.as_str-in-Some.ensures.value c.in_ok-insert-2.ensures.added c.if-not-branch-2.false
+    c.in_ok-insert-2.ensures.keys

@@ -14,5 +14,6 @@ returns-then-not-branch c =
 pub loop-variant-preserved : goal.loop-variant-preserved
 loop-variant-preserved c =
     sym (ap (λ vs. are_new (seen_in c.loop-variant.seen) (map (λ v. v.0) vs)) c.in-Some.ensures.cases.0
-    ∙ name_new _ c.as_str.result c.in-Some.variant.now.0 _ c.as_str.ensures.value c.in_ok-insert.ensures.added c.if-not-branch.false c.in_ok-insert.ensures.keys)
+    ∙ name_new _ c.as_str.result c.in-Some.variant.now.0 _ c.as_str.ensures.value c.in_ok-insert.ensures.added c.if-not-branch.false
+    c.in_ok-insert.ensures.keys)
     ∙ c.loop-variant.invariant

@@ -11,7 +11,9 @@ pub returns : goal.returns
 unfolding chars
 returns c =
     let fields : map field_view c.in_ok-fields.fields.items ≡ field (codes "value") 0 ∷ field (codes "children") 2 ∷ field (codes "next") 3 ∷ [] =
-    ap (map field_view) c.in_ok-fields.ensures.items ∙ (λ i. c.in_ok-field_shape.ensures i ∷ c.in_ok-field_shape-2.ensures i ∷ c.in_ok-field_shape-3.ensures i ∷ []) in
+    ap (map field_view) c.in_ok-fields.ensures.items
+    ∙ (λ i. c.in_ok-field_shape.ensures i ∷ c.in_ok-field_shape-2.ensures i ∷ c.in_ok-field_shape-3.ensures i ∷ []) in
     let shapes : table_view c.in_ok-shapes.shapes.items ≡ tree_table.shapes =
-    ap table_view c.in_ok-shapes.ensures.items ∙ (λ i. int width.I32 ∷ struct (chars (c.in_ok-from_str.ensures.ok i)) (only (fields i)) ∷ seq 1 ∷ optional 1 ∷ []) in
+    ap table_view c.in_ok-shapes.ensures.items
+    ∙ (λ i. int width.I32 ∷ struct (chars (c.in_ok-from_str.ensures.ok i)) (only (fields i)) ∷ seq 1 ∷ optional 1 ∷ []) in
     made_or_memory c.new.result tree_table.shapes 1 refl (rw shapes at c.new.ensures)

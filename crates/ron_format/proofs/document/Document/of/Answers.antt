@@ -12,14 +12,16 @@ pub returns-in-Err-clause-refused : goal.returns-in-Err-clause-refused
 returns-in-Err-clause-refused c = record {
   why = elim c.in-Err.ensures [
     | inl e ↦ inl (c.of_bracket.ensures.memory e)
-    | inr n ↦ inr (λ w. not_closed (chars c.args.text.now) (chars c.loop-after.rest.now) (chars c.in-Some.after.now) (open_view c.loop-after.brackets) c.in-Some.ensures.value n.0 c.loop-after.invariant.2 w)
+    | inr n ↦ inr (λ w. not_closed (chars c.args.text.now) (chars c.loop-after.rest.now) (chars c.in-Some.after.now) (open_view c.loop-after.brackets)
+        c.in-Some.ensures.value n.0 c.loop-after.invariant.2 w)
   ];
   place = c.of_bracket.ensures.place;
 }
 
 pub returns-in-Err-clause-opened : goal.returns-in-Err-clause-opened
 returns-in-Err-clause-opened c =
-    tells_fault (chars c.args.text.now) (chars c.loop-after.rest.now) (open_view c.loop-after.brackets) c.in-Err.fault c.of_bracket.result c.in-Err.ensures c.loop-after.invariant.2 c.of_bracket.ensures.memory
+    tells_fault (chars c.args.text.now) (chars c.loop-after.rest.now) (open_view c.loop-after.brackets) c.in-Err.fault c.of_bracket.result c.in-Err.ensures
+    c.loop-after.invariant.2 c.of_bracket.ensures.memory
     c.of_bracket.ensures.opened c.of_bracket.ensures.start
 
 pub returns-then-not-is_ended-clause-refused : goal.returns-then-not-is_ended-clause-refused
@@ -46,10 +48,12 @@ loop-after-preserved c =
     let here = token_end (chars c.loop-after.rest.now) (chars c.in-Some.after.now) c.in-Some.ensures.value in (
       u,
       end_of_end _ _ _ here c.loop-after.invariant.1,
-      reached_on (chars c.args.text.now) (chars c.loop-after.rest.now) (chars c.in-Some.after.now) (open_view c.loop-after.brackets) (open_view c.pass.new.self) c.in-Some.ensures.value c.in-Ok.ensures c.loop-after.invariant.2,
+      reached_on (chars c.args.text.now) (chars c.loop-after.rest.now) (chars c.in-Some.after.now) (open_view c.loop-after.brackets) (open_view c.pass.new.self)
+          c.in-Some.ensures.value c.in-Ok.ensures c.loop-after.invariant.2,
     )
 
 pub returns-in-Ok-finish-clause-refused : goal.returns-in-Ok-finish-clause-refused
 returns-in-Ok-finish-clause-refused c =
     let e : c.is_ended.result ≡ true = grind (arith, c.if-not-is_ended.false) in
-    reached_end (chars c.args.text.now) (chars c.loop-after.rest.now) (open_view c.loop-after.brackets) (nothing_left (chars c.loop-after.rest.now) (sym c.is_ended.ensures ∙ e)) c.in_default-take_innermost.ensures c.loop-after.invariant.2
+    reached_end (chars c.args.text.now) (chars c.loop-after.rest.now) (open_view c.loop-after.brackets)
+    (nothing_left (chars c.loop-after.rest.now) (sym c.is_ended.ensures ∙ e)) c.in_default-take_innermost.ensures c.loop-after.invariant.2

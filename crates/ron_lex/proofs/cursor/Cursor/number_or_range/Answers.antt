@@ -14,7 +14,9 @@ returns-in_err-number-clause-value c =
 
 pub returns-then-opens_points-2-clause-value : goal.returns-then-opens_points-2-clause-value
 returns-then-opens_points-2-clause-value c =
-    rw (points_behind c.args.self.now.rest (numeral_view c.in_ok-number.number) _ (sym c.if-opens_points.ensures) c.in_ok-number.ensures.value (sym c.if-opens_points-2.ensures)) c.points-then-opens_points-2.ensures.value
+    rw (points_behind c.args.self.now.rest (numeral_view c.in_ok-number.number) _ (sym c.if-opens_points.ensures) c.in_ok-number.ensures.value
+    (sym c.if-opens_points-2.ensures)) c.points-then-opens_points-2.ensures.value
 
 pub returns-clause-value : goal.returns-clause-value
-returns-clause-value c = nothing_behind c.args.self.now.rest (numeral_view c.in_ok-number.number) _ (sym c.if-opens_points.ensures) c.in_ok-number.ensures.value (sym c.if-opens_points-2.ensures)
+returns-clause-value c = nothing_behind c.args.self.now.rest (numeral_view c.in_ok-number.number) _ (sym c.if-opens_points.ensures) c.in_ok-number.ensures.value
+    (sym c.if-opens_points-2.ensures)

@@ -3,4 +3,5 @@ use Rattle.ron_lex.proofs.TurnLemmas.{looked_past}
 use Rattle.ron_lex.proofs.cursor.Cursor.opens_named_group.Goals as goal
 
 pub returns-clause-least : goal.returns-clause-least
-returns-clause-least c = looked_past (untyped_name c.args.self.now.rest) c.args.self.now c.look_to.new.self _ c.look_to.ensures.all (rw (← c.self.view_is) c.opens_named_group-answer.ensures.end)
+returns-clause-least c = looked_past (untyped_name c.args.self.now.rest) c.args.self.now c.look_to.new.self _ c.look_to.ensures.all
+    (rw (← c.self.view_is) c.opens_named_group-answer.ensures.end)

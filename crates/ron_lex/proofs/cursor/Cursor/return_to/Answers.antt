@@ -19,7 +19,8 @@ returns-clause-counted c =
     let start = subst (IsSuffix _) text c.place.invariant.0 in
     let here = end_of_end _ _ _ c.self.invariant.1 c.self.invariant.0 in
     let there = end_of_end _ _ _ c.place.invariant.1 start in
-    rw (← c.self.view_is) (count_back c.self.inside.beside _ _ _ _ (shorter_bytes _ _ _ here there earlier) (end_size _ _ there) (omega (arith, c.saturating_add-self-inside.ensures, c.saturating_sub-back.ensures, c.bytes_of.ensures, c.bytes_of-2.ensures)))
+    rw (← c.self.view_is) (count_back c.self.inside.beside _ _ _ _ (shorter_bytes _ _ _ here there earlier) (end_size _ _ there)
+    (omega (arith, c.saturating_add-self-inside.ensures, c.saturating_sub-back.ensures, c.bytes_of.ensures, c.bytes_of-2.ensures)))
 
 pub returns-clause-turns : goal.returns-clause-turns
 returns-clause-turns c = let counted = rw (← c.self.view_is) at (returns-clause-counted c) in rw (← c.self.view_is) (omega (arith, counted))

@@ -15,4 +15,5 @@ pub returns-then-not-is_at_class-clause-turns : goal.returns-then-not-is_at_clas
 returns-then-not-is_at_class-clause-turns c = look_nothing c.args.self.now
 
 pub returns-in-Ok-clause-value : goal.returns-in-Ok-clause-value
-returns-in-Ok-clause-value c = rw (c.pass_to.ensures.rest, ← c.self.view_is) (called_name _ _ _ (sym c.is_at_class.ensures ∙ c.if-not-is_at_class.false) c.in-Ok.ensures.stands c.in-Ok.ensures.value)
+returns-in-Ok-clause-value c = rw (c.pass_to.ensures.rest, ← c.self.view_is)
+    (called_name _ _ _ (sym c.is_at_class.ensures ∙ c.if-not-is_at_class.false) c.in-Ok.ensures.stands c.in-Ok.ensures.value)

@@ -8,7 +8,8 @@ use Rattle.ron_lex.proofs.TurnLemmas.{look_behind, behind_some, gap_look, look_n
 use Rattle.ron_lex.proofs.cursor.Cursor.take_some.Goals as goal
 
 pub pass_to-requires : goal.pass_to-requires
-pass_to-requires c = rw (← c.self.view_is) (end_of_end _ _ _ (gap_end _ _ c.skip_gap-opening.ensures.value) (record { front = _; is = c.in-Some.ensures.joined }))
+pass_to-requires c =
+    rw (← c.self.view_is) (end_of_end _ _ _ (gap_end _ _ c.skip_gap-opening.ensures.value) (record { front = _; is = c.in-Some.ensures.joined }))
 
 pub pass_to-requires-2 : goal.pass_to-requires-2
 pass_to-requires-2 c = rw c.pass_to.ensures.rest (end_behind_char _ _ _ c.in-Some-strip_char.ensures)
@@ -28,7 +29,8 @@ returns-clause-no_longer c =
 
 pub look_to-requires : goal.look_to-requires
 unfolding literals
-look_to-requires c = rw (← c.self.view_is) (look_behind (behind_some _ _ c.in-Some.ensures.joined) (gap_look _ _ _ c.skip_gap-opening.ensures.value c.end_of_look.ensures))
+look_to-requires c =
+    rw (← c.self.view_is) (look_behind (behind_some _ _ c.in-Some.ensures.joined) (gap_look _ _ _ c.skip_gap-opening.ensures.value c.end_of_look.ensures))
 
 pub returns-in_default-clause-turns : goal.returns-in_default-clause-turns
 returns-in_default-clause-turns c = look_nothing c.args.self.now
@@ -37,4 +39,5 @@ pub returns-in_default-strip_char-clause-least : goal.returns-in_default-strip_c
 unfolding literals
 returns-in_default-strip_char-clause-least c _ =
     let behind : drop 4 c.args.self.now.rest ≡ chars c.in-Some.behind.now = rw (← c.self.view_is, c.in-Some.ensures.joined) refl in
-    rw behind (counted_past (chars c.in-Some.behind.now) _ c.args.self.now c.look_to.new.self c.look_to.ensures.all (past_gap_look _ _ _ c.skip_gap-opening.ensures.value c.end_of_look.ensures))
+    rw behind (counted_past (chars c.in-Some.behind.now) _ c.args.self.now c.look_to.new.self c.look_to.ensures.all
+    (past_gap_look _ _ _ c.skip_gap-opening.ensures.value c.end_of_look.ensures))

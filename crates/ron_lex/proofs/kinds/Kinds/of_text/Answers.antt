@@ -14,9 +14,13 @@ loop-after-preserved c =
     let before = c.loop-after.filling in
     let behind = c.in_ok-pass.ensures in (
       u,
-      pass_on (stage_view before.stage) _ (reverse before.groups.items) _ (map kind_view before.found.kinds.items) _ _ _ (chars c.loop-after.rest.now) (chars c.in-Some.after.now) c.in-Some.ensures.value (sym (length_view before.found.kinds.items)) behind.stage behind.groups behind.kinds c.loop-after.invariant.1,
-      places_on (chars c.args.text.now) before.found.places.items _ _ (chars c.loop-after.rest.now) (chars c.in-Some.after.now) c.in-Some.ensures.value behind.places c.loop-after.invariant.2,
+      pass_on (stage_view before.stage) _ (reverse before.groups.items) _ (map kind_view before.found.kinds.items) _ _ _ (chars c.loop-after.rest.now)
+          (chars c.in-Some.after.now) c.in-Some.ensures.value (sym (length_view before.found.kinds.items)) behind.stage behind.groups behind.kinds
+          c.loop-after.invariant.1,
+      places_on (chars c.args.text.now) before.found.places.items _ _ (chars c.loop-after.rest.now) (chars c.in-Some.after.now) c.in-Some.ensures.value
+          behind.places c.loop-after.invariant.2,
     )
 
 pub returns : goal.returns
-returns c = found_all (chars c.args.text.now) (stage_view c.loop-after.filling.stage) (reverse c.loop-after.filling.groups.items) _ _ (chars c.loop-after.rest.now) c.in_default.ensures.value c.loop-after.invariant.1 c.loop-after.invariant.2
+returns c = found_all (chars c.args.text.now) (stage_view c.loop-after.filling.stage) (reverse c.loop-after.filling.groups.items) _ _
+    (chars c.loop-after.rest.now) c.in_default.ensures.value c.loop-after.invariant.1 c.loop-after.invariant.2

@@ -5,7 +5,8 @@ use Rattle.ron_lex.proofs.string.StringContent.split_piece.Goals as goal
 
 pub returns-in_err-character-clause-value : goal.returns-in_err-character-clause-value
 returns-in_err-character-clause-value c =
-    failed_exit _ _ _ _ c.from_residual.ensures.1 (string_piece_escaped (chars c.args.text.now) c.in_default.ensures ∙ string_escape_failed _ c.in_err-character.ensures.value)
+    failed_exit _ _ _ _ c.from_residual.ensures.1
+    (string_piece_escaped (chars c.args.text.now) c.in_default.ensures ∙ string_escape_failed _ c.in_err-character.ensures.value)
 
 pub returns-clause-value : goal.returns-clause-value
 returns-clause-value c = string_piece_escaped (chars c.args.text.now) c.in_default.ensures ∙ string_escape_got _ _ _ c.in_ok-character.ensures.value

@@ -17,5 +17,6 @@ clone_field-returns-in_ok-clone_fields-in-Some t c =
 
 pub clone_fields-loop-name-preserved : goal.clone_fields-loop-name-preserved
 clone_fields-loop-name-preserved t c =
-    copied (entries c.args.fields.now) (entries c.loop-name.copies) c.loop-name.name-iterator c.next.new.self c.in-Some.name.now c.in_ok-name_copy.name_copy c.in-Some.field.now c.in_ok-clone_field.field-0
+    copied (entries c.args.fields.now) (entries c.loop-name.copies) c.loop-name.name-iterator c.next.new.self c.in-Some.name.now c.in_ok-name_copy.name_copy
+    c.in-Some.field.now c.in_ok-clone_field.field-0
     (search rules) c.loop-name.invariant (search rules) (search rules) (search rules) _ c.in_ok-put.ensures.content

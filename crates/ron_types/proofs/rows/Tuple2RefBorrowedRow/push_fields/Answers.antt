@@ -13,5 +13,6 @@ returns-in_ok-push-in-Some-clause-value g c =
     let accepts = NamedThen g.A.Schematic.accepts g.R.BorrowedRow.accepts_named in
     MatchResult-weaker c.push_fields.result c.push_fields.ensures.value
     (λ new h. subst (λ (names : List (List ℕ)). PushesFields names datas accepts c.args.fields.items new.items) (sym names)
-    (fields_pushed g.A.Schematic.accepts _ _ g.R.BorrowedRow.accepts_named c.in-Some.name.now.now _ _ _ _ c.in_ok-field-in-Some.field-0 held.value held.accepted c.in_ok-push-in-Some.ensures.items h))
+    (fields_pushed g.A.Schematic.accepts _ _ g.R.BorrowedRow.accepts_named c.in-Some.name.now.now _ _ _ _ c.in_ok-field-in-Some.field-0 held.value held.accepted
+    c.in_ok-push-in-Some.ensures.items h))
     (λ e h. h)

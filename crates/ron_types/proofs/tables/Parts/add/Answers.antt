@@ -10,4 +10,5 @@ invariant_of-self g c =
     record { closed = closed_behind c.import.result c.args.self.now.shapes.items _ c.in_ok-schema.schema c.args.self.now.closed w c.import.ensures.value }
 
 pub returns-clause-value : goal.returns-clause-value
-returns-clause-value g c = puts_of c.import.result c.args.self.now.shapes.items _ c.in_ok-schema.schema g.T.Schematic.schema_is c.in_ok-schema.ensures c.import.ensures.value
+returns-clause-value g c =
+    puts_of c.import.result c.args.self.now.shapes.items _ c.in_ok-schema.schema g.T.Schematic.schema_is c.in_ok-schema.ensures c.import.ensures.value

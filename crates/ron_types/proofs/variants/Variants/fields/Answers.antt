@@ -10,7 +10,9 @@ use Rattle.ron_types.proofs.variants.Variants.fields.Goals as goal
 
 pub returns : goal.returns
 returns g c =
-    let adds = subst (λ old. AddsFields (texts_of c.args.names.now) g.R.Row.tables (shapes_in c.args.self.now.parts) (map field_view old) (shapes_in c.add_fields.new.parts) (map field_view c.add_fields.new.fields.items)) c.in_ok-fields.ensures.items c.in_ok-add_fields.ensures in
+    let adds = subst (λ old. AddsFields (texts_of c.args.names.now) g.R.Row.tables (shapes_in c.args.self.now.parts) (map field_view old)
+    (shapes_in c.add_fields.new.parts) (map field_view c.add_fields.new.fields.items)) c.in_ok-fields.ensures.items c.in_ok-add_fields.ensures in
     MatchResult-weaker c.push.result c.push.ensures
-    (λ _ h. last_first _ _ (chars c.args.name.now) (fields (named_tables (texts_of c.args.names.now) g.R.Row.tables)) (named_added _ _ (chars c.args.name.now) c.add_fields.new.parts (texts_of c.args.names.now) g.R.Row.tables _ c.requires h.0 adds h.1))
+    (λ _ h. last_first _ _ (chars c.args.name.now) (fields (named_tables (texts_of c.args.names.now) g.R.Row.tables))
+    (named_added _ _ (chars c.args.name.now) c.add_fields.new.parts (texts_of c.args.names.now) g.R.Row.tables _ c.requires h.0 adds h.1))
     (λ e h. h)

@@ -9,5 +9,6 @@ top-requires g c = enum_may_stand c.args.self g.E.Enum.variants (string_bytes c.
 
 pub returns : goal.returns
 returns g c =
-    let made = subst (Makes c.top.result) (enum_stands c.args.self g.E.Enum.variants (string_bytes c.in_ok-from_str.field-0) c.requires.added c.requires.differ) c.top.ensures in
+    let made = subst (Makes c.top.result) (enum_stands c.args.self g.E.Enum.variants (string_bytes c.in_ok-from_str.field-0) c.requires.added c.requires.differ)
+    c.top.ensures in
     subst (λ n. Makes c.top.result (table_of_enum n g.E.Enum.variants)) c.in_ok-from_str.ensures.ok made

@@ -21,6 +21,8 @@ returns-in_ok-push-in-Some g c =
     let is = c.in_ok-shape_of-in-Some.ensures ∙ ap (field_of n c.in_ok-root.root) c.may_be_missing.ensures in
     let push = ap (map field_view) c.in_ok-push-in-Some.ensures.items ∙ map-append field_view c.args.fields.now.items _ in
     MatchResult-weaker c.add_fields.result c.add_fields.ensures
-    (λ x h. subst (λ (names : List Name). AddsFields names ((t, missing) ∷ ps) old before (shapes_in c.add_fields.new.parts) (map field_view c.add_fields.new.fields.items)) (sym names)
-    (field_added t missing ps n (names_in c.in-Some.names.now) old _ _ before _ _ c.in_ok-root.root f c.in_ok-root.ensures.value c.in_ok-root.ensures.in_range c.in_ok-root.ensures.grown is push h))
+    (λ x h. subst (λ (names : List Name).
+    AddsFields names ((t, missing) ∷ ps) old before (shapes_in c.add_fields.new.parts) (map field_view c.add_fields.new.fields.items)) (sym names)
+    (field_added t missing ps n (names_in c.in-Some.names.now) old _ _ before _ _ c.in_ok-root.root f c.in_ok-root.ensures.value c.in_ok-root.ensures.in_range
+    c.in_ok-root.ensures.grown is push h))
     (λ e h. h)

@@ -43,7 +43,8 @@ returns-in-None-clause-value g c =
     let accepted = subst P c.in-None.is c.in_ok-held.ensures.accepted in
     MatchResult-weaker c.push_fields-in-None.result c.push_fields-in-None.ensures.value
     (λ new h. subst (λ (names : List Name). PushesFields names (g.F.FieldType.spelled c.args.values.0.now ∷ ds) (SpelledThen P Rest) old new.items) (sym names)
-    (subst (λ (d : Option plain.Data). PushesFields (n ∷ ns) (d ∷ ds) (SpelledThen P Rest) old new.items) is (left_out P Rest n ns ds old new.items accepted h)))
+    (subst (λ (d : Option plain.Data). PushesFields (n ∷ ns) (d ∷ ds) (SpelledThen P Rest) old new.items) is
+    (left_out P Rest n ns ds old new.items accepted h)))
     (λ e h. h)
 
 pub returns-in-None-clause-kept : goal.returns-in-None-clause-kept
@@ -55,5 +56,6 @@ returns-in-None-clause-kept g c =
     let ns = names_in c.in-Some.names.now in
     let d = g.F.FieldType.spelled c.args.values.0.now in
     let ds = g.R.FieldsToData.lent c.args.values.1 in
-    subst (λ (names : List Name). OnOk c.push_fields-in-None.result (own_differ names ≡ true → spelled_normal names (f ∷ fs) (spelled_fields names (d ∷ ds)) ≡ spelled_fields names (d ∷ ds))) (sym names)
+    subst (λ (names : List Name). OnOk c.push_fields-in-None.result
+    (own_differ names ≡ true → spelled_normal names (f ∷ fs) (spelled_fields names (d ∷ ds)) ≡ spelled_fields names (d ∷ ds))) (sym names)
     (on_ok_weaker c.push_fields-in-None.result (kept_then f fs n ns d ds c.in_ok-held.ensures.kept) c.push_fields-in-None.ensures.kept)

@@ -10,5 +10,6 @@ settled-init c = record {
 
 pub settled-preserved : goal.settled-preserved
 settled-preserved c = record {
-  state = λ parts. settled-more c.args.pairs.items c.settled.map.pairs.items c.settle.new.pairs.items c.settled.settled c.in_ok-settled.settled (c.settled.invariant.state parts) (omega arith) c.in_ok-settled.ensures.content;
+  state = λ parts. settled-more c.args.pairs.items c.settled.map.pairs.items c.settle.new.pairs.items c.settled.settled c.in_ok-settled.settled
+      (c.settled.invariant.state parts) (omega arith) c.in_ok-settled.ensures.content;
 }

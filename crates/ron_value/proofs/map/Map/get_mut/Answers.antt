@@ -12,7 +12,8 @@ returns-in-Ok c =
     let k : Value = c.args.key.now in
     let es : Entries = entries c.args.self.now in
     let shown = c.index_mut-pair.ensures.value in
-    let written = λ (w : Value) (ordered : AreOrdered es). ap (λ (p : Value × Value). slice_set es c.in-Ok.place (p.0, w)) shown ∙ sym (with_value-found k es c.in-Ok.place _ w (c.in-Ok.ensures.place ordered)) in (
+    let written = λ (w : Value) (ordered : AreOrdered es). ap (λ (p : Value × Value). slice_set es c.in-Ok.place (p.0, w)) shown
+    ∙ sym (with_value-found k es c.in-Ok.place _ w (c.in-Ok.ensures.place ordered)) in (
       (refl, λ w ordered. (written w ordered, λ value. subst AreOrdered (sym (written w ordered)) (AreOrdered-with_value k w es ordered value)), refl),
       record {
         writes_back = tt;

@@ -28,7 +28,8 @@ returns-in-Ok-clause-ordered c ordered key value =
 
 pub returns-in_ok-insert-in-Err-clause-content : goal.returns-in_ok-insert-in-Err-clause-content
 returns-in_ok-insert-in-Err-clause-content c ordered =
-    c.in_ok-insert-in-Err.ensures.items ∙ sym (with_entry-missing c.args.key (entries c.args.self.now) c.in-Err.place c.args.value (c.in-Err.ensures.place ordered))
+    c.in_ok-insert-in-Err.ensures.items
+    ∙ sym (with_entry-missing c.args.key (entries c.args.self.now) c.in-Err.place c.args.value (c.in-Err.ensures.place ordered))
 
 pub returns-in_ok-insert-in-Err-clause-replaced : goal.returns-in_ok-insert-in-Err-clause-replaced
 returns-in_ok-insert-in-Err-clause-replaced c ordered =
@@ -40,10 +41,12 @@ returns-in_ok-insert-in-Err-clause-ordered c ordered key value =
 
 pub returns-in_err-insert-in-Err-clause-in_place : goal.returns-in_err-insert-in-Err-clause-in_place
 returns-in_err-insert-in-Err-clause-in_place c ordered there =
-    let missing : IsSome {T = Value} None = subst IsSome (value_at-missing c.args.key (entries c.args.self.now) c.in-Err.place ordered (c.in-Err.ensures.place ordered)) there in
+    let missing : IsSome {T = Value} None =
+    subst IsSome (value_at-missing c.args.key (entries c.args.self.now) c.in-Err.place ordered (c.in-Err.ensures.place ordered)) there in
     absurd (cc)
 
 pub returns-in-Ok-clause-answer_ordered : goal.returns-in-Ok-clause-answer_ordered
 returns-in-Ok-clause-answer_ordered c ordered =
     let P : Value → Type 0 = λ v. IsOrdered (tree_of v) in
-    subst P (sym c.replace.ensures.value) (IsOrdered-value (entries c.args.self.now) c.in-Ok.place _ ordered c.in-Ok.ensures.in_range c.index_mut-pair.ensures.value)
+    subst P (sym c.replace.ensures.value)
+    (IsOrdered-value (entries c.args.self.now) c.in-Ok.place _ ordered c.in-Ok.ensures.in_range c.index_mut-pair.ensures.value)

@@ -19,10 +19,12 @@ returns-in-Ok-clause-ordered c ordered =
     subst AreOrdered (sym (returns-in-Ok-clause-content c ordered)) (AreOrdered-without_key c.args.key.now _ ordered)
 
 pub returns-in-Err-clause-value : goal.returns-in-Err-clause-value
-returns-in-Err-clause-value c ordered = sym (value_at-missing c.args.key.now (entries c.args.self.now) c.in-Err.field-0 ordered (c.in-Err.ensures.place ordered))
+returns-in-Err-clause-value c ordered =
+    sym (value_at-missing c.args.key.now (entries c.args.self.now) c.in-Err.field-0 ordered (c.in-Err.ensures.place ordered))
 
 pub returns-in-Err-clause-content : goal.returns-in-Err-clause-content
 returns-in-Err-clause-content c ordered = sym (without_key-missing c.args.key.now (entries c.args.self.now) (sym (returns-in-Err-clause-value c ordered)))
 
 pub returns-in-Ok-clause-answer_ordered : goal.returns-in-Ok-clause-answer_ordered
-returns-in-Ok-clause-answer_ordered c ordered = IsOrdered-value (entries c.args.self.now) c.in-Ok.place _ ordered c.in-Ok.ensures.in_range c.remove-value.ensures.value
+returns-in-Ok-clause-answer_ordered c ordered =
+    IsOrdered-value (entries c.args.self.now) c.in-Ok.place _ ordered c.in-Ok.ensures.in_range c.remove-value.ensures.value

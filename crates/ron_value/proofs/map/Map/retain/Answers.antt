@@ -11,7 +11,8 @@ use Rattle.ron_value.proofs.map.Map.retain.Goals as goal
 
 -- each answer of a closure that no call changes is one that it may give
 answered_in_turn : {F : Type 0} (R : F → Value × Value → Bool → F → Type 0) (Answers : Bor Value → Bor Value → Bool → Type 0) (f : F)
-    → ((Tells : Bool → Value → Value → Type 0) → ((k v : Bor Value) (b : Bool) → Answers k v b → Tells b k.now v.now) → (e : Value × Value) (b : Bool) (h : F) → R f e b h → Tells b e.0 e.1 × (h ≡ f))
+    → ((Tells : Bool → Value → Value → Type 0) → ((k v : Bor Value) (b : Bool) → Answers k v b → Tells b k.now v.now) → (e : Value × Value) (b : Bool) (h : F)
+    → R f e b h → Tells b e.0 e.1 × (h ≡ f))
     → (bs : List Bool) (es : Entries) (h : F) → length bs ≡ length es → ReturnsInTurn R f bs es h → AllZip (λ b e. MayAnswer Answers b e.0 e.1) bs es
 answered_in_turn R Answers f step [] [] h long told = tt
 answered_in_turn R Answers f step [] (e ∷ es) h long told = absurd (omega arith)

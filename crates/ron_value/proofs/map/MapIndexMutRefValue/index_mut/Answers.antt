@@ -21,7 +21,11 @@ returns c =
     let written = λ (v : Value). set-key_place k es i v found in
     let at_place = λ (v : Value) (p : Value). roll-Map (record { pairs = with_item m.pairs i (p, v) }) in
     let with_place = λ (v : Value) (n : ℕ). roll-Map (record { pairs = with_item m.pairs n ((slice_index_or es n (k, v)).0, v) }) in (
-      (refl, λ v. ap (at_place v) (ap (λ (p : Value × Value). p.0) (shown ∙ get_or_default es i _ (k, v) c.place_of-place.ensures.in_range)) ∙ sym (ap (with_place v) (key_place-found k es i found))),
+      (
+        refl,
+        λ v. ap (at_place v) (ap (λ (p : Value × Value). p.0) (shown ∙ get_or_default es i _ (k, v) c.place_of-place.ensures.in_range))
+            ∙ sym (ap (with_place v) (key_place-found k es i found)),
+      ),
       record {
         writes_back = tt;
         value = value_at-found k es i _ found ∙ ap (λ (p : Value × Value). Some p.1) (sym shown);

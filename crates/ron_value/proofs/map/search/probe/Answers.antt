@@ -6,7 +6,12 @@ use Rattle.ron_value.proofs.map.search.probe.Goals as goal
 pub overflow_add-probes : goal.overflow_add-probes
 overflow_add-probes c =
     let i = c.loop-low.invariant in
-    omega (arith, i.probes, binary_digits-halved 0 (c.loop-low.high - c.loop-low.low) (omega arith) (omega arith), binary_digits-fit (length c.args.pairs.now) i.in_memory)
+    omega (
+      arith,
+      i.probes,
+      binary_digits-halved 0 (c.loop-low.high - c.loop-low.low) (omega arith) (omega arith),
+      binary_digits-fit (length c.args.pairs.now) i.in_memory,
+    )
 
 pub loop-low-preserved-in-Less : goal.loop-low-preserved-in-Less
 loop-low-preserved-in-Less c =
@@ -17,7 +22,8 @@ loop-low-preserved-in-Less c =
       in_range = i.in_range;
       in_memory = i.in_memory;
       probes = omega (arith, i.probes, binary_digits-halved (c.loop-low.high - (c.loop-low.low + size / 2 + 1)) size (omega arith) (omega arith));
-      before = λ ordered. below_before c.args.key.now c.args.pairs.now _ ordered (omega arith) (seen c.args.key.now Less c.args.pairs.now _ _ (omega arith) (sym c.in-Less.ensures));
+      before = λ ordered. below_before c.args.key.now c.args.pairs.now _ ordered (omega arith)
+          (seen c.args.key.now Less c.args.pairs.now _ _ (omega arith) (sym c.in-Less.ensures));
       behind = i.behind;
     }
 
@@ -31,7 +37,8 @@ loop-low-preserved c =
       in_memory = i.in_memory;
       probes = omega (arith, i.probes, binary_digits-halved (c.loop-low.low + size / 2 - c.loop-low.low) size (omega arith) (omega arith));
       before = i.before;
-      behind = λ ordered. above_behind c.args.key.now c.args.pairs.now _ ordered (omega arith) (seen c.args.key.now Greater c.args.pairs.now _ _ (omega arith) (sym c.in-Greater.ensures));
+      behind = λ ordered. above_behind c.args.key.now c.args.pairs.now _ ordered (omega arith)
+          (seen c.args.key.now Greater c.args.pairs.now _ _ (omega arith) (sym c.in-Greater.ensures));
     }
 
 pub returns-in-Equal-clause-place : goal.returns-in-Equal-clause-place

@@ -9,10 +9,13 @@ use Rattle.ron_types.specs.Normal.{list_data, list_normal}
 use Rattle.ron_types.proofs.BackLemmas.{items_normal-map, view-Seq}
 use Rattle.ron_types.proofs.types.lists.VecDeserialize.from_data.Goals as goal
 
-made : {T : Type 0} (f : T → plain.Data) (normal : plain.Data → plain.Data) (d : Data) (items : Vec Data Global) (r : Result (Vec T Global) Error) → d ≡ held.Seq items
-    → IfOk r (λ values. map f values.items ≡ map (λ d. normal (data_view d)) items.items) → IfOk r (λ values. list_data f values.items ≡ list_normal normal (data_view d))
+made : {T : Type 0} (f : T → plain.Data) (normal : plain.Data → plain.Data) (d : Data) (items : Vec Data Global) (r : Result (Vec T Global) Error)
+    → d ≡ held.Seq items
+    → IfOk r (λ values. map f values.items ≡ map (λ d. normal (data_view d)) items.items)
+    → IfOk r (λ values. list_data f values.items ≡ list_normal normal (data_view d))
 made f normal d items (Ok values) i e =
-    ap (λ ds. plain.list_of (plain.datas ds)) e ∙ ap plain.list_of (sym (items_normal-map normal data_view items.items)) ∙ ap (list_normal normal) (sym (view-Seq items)) ∙ ap (λ d. list_normal normal (data_view d)) (sym i)
+    ap (λ ds. plain.list_of (plain.datas ds)) e ∙ ap plain.list_of (sym (items_normal-map normal data_view items.items))
+    ∙ ap (list_normal normal) (sym (view-Seq items)) ∙ ap (λ d. list_normal normal (data_view d)) (sym i)
 made f normal d items (Err x) i e = tt
 
 pub returns-in-Seq-clause-value : goal.returns-in-Seq-clause-value

@@ -13,7 +13,8 @@ loop-item-preserved g c = record {
   values = grind (arith, common_steps);
   accepted = grind (arith, common_steps);
   kept = grind (arith, common_steps);
-  of_schema = passed_more (λ x. IsOfOrdered g.T.Schematic.schema_is (g.T.Schematic.data x)) c.deref-item-items.result.now c.loop-item.item-index c.item-item.result c.loop-item-test.true c.item-item.is c.in_ok-to_data.ensures.of_schema c.loop-item.invariant.of_schema;
+  of_schema = passed_more (λ x. IsOfOrdered g.T.Schematic.schema_is (g.T.Schematic.data x)) c.deref-item-items.result.now c.loop-item.item-index
+      c.item-item.result c.loop-item-test.true c.item-item.is c.in_ok-to_data.ensures.of_schema c.loop-item.invariant.of_schema;
 }
 
 pub returns-clause-value : goal.returns-clause-value
@@ -37,4 +38,5 @@ pub returns-clause-of_schema : goal.returns-clause-of_schema
 returns-clause-of_schema g c =
     let data' = g.T.Schematic.data in
     let whole = taken c.loop-item.item-index c.deref-item-items.result.now c.args.self.now.items c.loop-item-test.false c.deref-item-items.ensures.value in
-    list_is_of g.T.Schematic.schema_is (map data' c.args.self.now.items) (each_map (IsOfOrdered g.T.Schematic.schema_is) data' _ (subst (Each (λ x. IsOfOrdered g.T.Schematic.schema_is (data' x))) whole c.loop-item.invariant.of_schema))
+    list_is_of g.T.Schematic.schema_is (map data' c.args.self.now.items) (each_map (IsOfOrdered g.T.Schematic.schema_is) data' _
+    (subst (Each (λ x. IsOfOrdered g.T.Schematic.schema_is (data' x))) whole c.loop-item.invariant.of_schema))
