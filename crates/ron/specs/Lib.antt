@@ -135,14 +135,14 @@ pub use Rattle.ron_types.specs.RecoveryLaws as RecoveryOfTypes
 pub use Rattle.ron_types.specs.PieceLaws as RecoveryOfPieces
 pub use Rattle.ron_types.specs.Faults as TypeFaults
 pub use Rattle.ron_types.specs.Parts as TypeParts
-pub use Rattle.ron_types_laws.specs.Laws as TypeLaws
+pub use Rattle.ron_types.specs.Laws as TypeLaws
 pub use Rattle.ron_types_fields.specs.Names as FieldAliases
 pub use Rattle.ron_types_fields.specs.Spelled as FieldsSpelled
 pub use Rattle.ron_types_fields.specs.Rows as FieldRows
 pub use Rattle.ron_types_fields.specs.Structs as FieldStructs
 pub use Rattle.ron_types_fields.specs.NamedStructs
 pub use Rattle.ron_types_more.specs.Accepts as MoreAccepted
-pub use Rattle.ron_types_field_laws.specs.FieldLaws
+pub use Rattle.ron_types_fields.specs.FieldLaws
 pub use Rattle.ron_format_words.specs.Alike as WordsAlike
 pub use Rattle.ron_format_words.specs.Comments as CommentsSaid
 pub use Rattle.ron_format_words.specs.Edge as Edges

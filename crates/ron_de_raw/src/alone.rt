@@ -16,7 +16,7 @@ ghost use Rattle.ron_de_raw.specs.Reading.{ReadsAlone, PassesValue};
 use crate::stretch::bytes_of;
 use ron_base::error::{Error, Result, SpannedError, SpannedResult};
 use ron_base::extensions::Extensions;
-use ron_de_head::attributes::read_head;
+use ron_de_steps::attributes::read_head;
 use ron_de_steps::context::Context;
 use ron_de_steps::gap::pass_gap;
 use ron_de_untyped::value::read_any;

@@ -6,3 +6,6 @@ pub mod SpendLemmas
 pub mod NearLemmas
 pub mod KeepLemmas
 pub mod LeadLemmas
+pub mod AttributeLemmas
+pub mod AttributeCounts
+pub mod AttributeLeads

@@ -5,3 +5,4 @@ pub mod Conditions
 pub mod Steps
 pub mod Advance
 pub mod Spends
+pub mod Attributes

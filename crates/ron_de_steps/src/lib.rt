@@ -5,6 +5,7 @@
 //! nowhere; what every call of reading does (`Advances`); and how counts of turns compose (`Spends`).
 #![tactic(auto)]
 
+pub mod attributes;
 pub mod context;
 pub mod faults;
 pub mod gap;

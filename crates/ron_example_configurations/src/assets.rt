@@ -6,7 +6,7 @@ ghost use Rattle.ron_example_configurations.specs.Names.{asset_names, assets_dif
 ghost use Rattle.ron.specs.NamedStructs.{table_of_newtype, data_of_newtype, normal_of_newtype, IsNewtypeOf};
 ghost use Rattle.ron.specs.NamedStructs.{table_of_tuple_struct, data_of_tuple_struct, normal_of_tuple_struct, IsTupleStructOf};
 ghost use Rattle.ron.specs.FieldStructs.{table_of_fields, data_of_fields, normal_of_fields, IsOfFields};
-ghost use Rattle.ron_types_field_laws.specs.PieceLaws.{tuple_structs_tell, fields_tell, there_tells, left_out_recovers};
+ghost use Rattle.ron_types_fields.specs.PieceLaws.{tuple_structs_tell, fields_tell, there_tells, left_out_recovers};
 
 use ron::error::Result;
 use ron::schema::{Data, Deserialize, Faithful, Schema, Schematic, Serialize};

@@ -14,3 +14,10 @@ pub mod RowLemmas
 pub mod VariantLemmas
 pub mod KindLemmas
 pub mod FaultLemmas
+pub mod OutlineLaws
+pub mod LeafLaws
+pub mod MoveLaws
+pub mod PartLaws
+pub mod RowLaws
+pub mod EnumLaws
+pub mod RefusalLaws

@@ -17,3 +17,4 @@ pub mod Rows
 pub mod Kinds
 pub mod Variants
 pub mod PieceLaws
+pub mod Laws

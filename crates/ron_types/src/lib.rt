@@ -8,6 +8,7 @@
 pub mod faithful;
 pub mod fields;
 pub mod items;
+pub mod laws;
 pub mod refuse;
 pub mod rows;
 pub mod tables;

@@ -3,3 +3,5 @@ pub mod Spelled
 pub mod Rows
 pub mod Structs
 pub mod NamedStructs
+pub mod FieldLaws
+pub mod PieceLaws

@@ -8,6 +8,7 @@
 
 pub mod field_types;
 pub mod fields;
+pub mod laws;
 pub mod newtypes;
 pub mod rows;
 mod shapes;

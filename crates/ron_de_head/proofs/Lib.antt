@@ -1,3 +1,0 @@
-mod AttributeLemmas
-mod CountLemmas
-mod LeadLemmas

@@ -1,5 +1,0 @@
-use Rattle.ron_types_field_laws.proofs.FieldLemmas.{none_spelled}
-use Rattle.ron_types_field_laws.proofs.laws.empty_rows_accept_their_data.Goals as goal
-
-pub returns : goal.returns
-returns c = record { only = none_spelled; others = none_spelled }

@@ -1,5 +1,0 @@
-use Rattle.ron_types_laws.proofs.EnumLemmas.{enums}
-use Rattle.ron_types_laws.proofs.enums.enums_accept_their_data.Goals as goal
-
-pub returns : goal.returns
-returns g c = λ differ all name. enums name g.E.Enum.variants differ all

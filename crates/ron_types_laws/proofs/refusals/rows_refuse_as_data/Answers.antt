@@ -1,5 +1,0 @@
-use Rattle.ron_types_laws.proofs.RefusalLemmas.{no_part, more_parts}
-use Rattle.ron_types_laws.proofs.refusals.rows_refuse_as_data.Goals as goal
-
-pub returns : goal.returns
-returns g c = record { none = no_part; more = more_parts g.A.Deserialize.refuses g.R.FromRow.refuses }
