@@ -1,6 +1,7 @@
 -- The answers of the reading functions: a table of their names, which for a cycle of calls has to stand in one file. Each answer is from the file of its
 -- module.
 mod Structs
+mod StructTurns
 mod Elements
 mod Lists
 mod Tuples
@@ -8,6 +9,7 @@ mod Content
 mod Newtypes
 mod Values
 mod Bare
+mod BareTurns
 mod Options
 mod Maps
 mod Enums
@@ -642,73 +644,73 @@ pub enums::read_variant_content-returns-in_ok-fields-in-Struct : goal.enums::rea
 enums::read_variant_content-returns-in_ok-fields-in-Struct = Enums.enums::read_variant_content-returns-in_ok-fields-in-Struct
 
 pub structs::read_field-returns-in_err-field-clause-turns : goal.structs::read_field-returns-in_err-field-clause-turns
-structs::read_field-returns-in_err-field-clause-turns = Structs.structs::read_field-returns-in_err-field-clause-turns
+structs::read_field-returns-in_err-field-clause-turns = StructTurns.structs::read_field-returns-in_err-field-clause-turns
 
 pub structs::read_field-returns-in_err-inner-clause-turns : goal.structs::read_field-returns-in_err-inner-clause-turns
-structs::read_field-returns-in_err-inner-clause-turns = Structs.structs::read_field-returns-in_err-inner-clause-turns
+structs::read_field-returns-in_err-inner-clause-turns = StructTurns.structs::read_field-returns-in_err-inner-clause-turns
 
 pub structs::read_field-returns-in_err-skip_untyped-clause-turns : goal.structs::read_field-returns-in_err-skip_untyped-clause-turns
-structs::read_field-returns-in_err-skip_untyped-clause-turns = Structs.structs::read_field-returns-in_err-skip_untyped-clause-turns
+structs::read_field-returns-in_err-skip_untyped-clause-turns = StructTurns.structs::read_field-returns-in_err-skip_untyped-clause-turns
 
 pub structs::read_field-returns-in_default-clause-turns : goal.structs::read_field-returns-in_default-clause-turns
-structs::read_field-returns-in_default-clause-turns = Structs.structs::read_field-returns-in_default-clause-turns
+structs::read_field-returns-in_default-clause-turns = StructTurns.structs::read_field-returns-in_default-clause-turns
 
 pub structs::read_field-returns-in_default-clause-leads : goal.structs::read_field-returns-in_default-clause-leads
-structs::read_field-returns-in_default-clause-leads = Structs.structs::read_field-returns-in_default-clause-leads
+structs::read_field-returns-in_default-clause-leads = StructTurns.structs::read_field-returns-in_default-clause-leads
 
 pub structs::read_field-returns-in_err-value-clause-turns : goal.structs::read_field-returns-in_err-value-clause-turns
-structs::read_field-returns-in_err-value-clause-turns = Structs.structs::read_field-returns-in_err-value-clause-turns
+structs::read_field-returns-in_err-value-clause-turns = StructTurns.structs::read_field-returns-in_err-value-clause-turns
 
 pub structs::read_field-returns-clause-turns : goal.structs::read_field-returns-clause-turns
-structs::read_field-returns-clause-turns = Structs.structs::read_field-returns-clause-turns
+structs::read_field-returns-clause-turns = StructTurns.structs::read_field-returns-clause-turns
 
 pub structs::read_field-returns-clause-leads : goal.structs::read_field-returns-clause-leads
-structs::read_field-returns-clause-leads = Structs.structs::read_field-returns-clause-leads
+structs::read_field-returns-clause-leads = StructTurns.structs::read_field-returns-clause-leads
 
 pub structs::read_fields-returns-in_err-found-clause-turns : goal.structs::read_fields-returns-in_err-found-clause-turns
-structs::read_fields-returns-in_err-found-clause-turns = Structs.structs::read_fields-returns-in_err-found-clause-turns
+structs::read_fields-returns-in_err-found-clause-turns = StructTurns.structs::read_fields-returns-in_err-found-clause-turns
 
 pub structs::read_fields-returns-in_err-item-clause-turns : goal.structs::read_fields-returns-in_err-item-clause-turns
-structs::read_fields-returns-in_err-item-clause-turns = Structs.structs::read_fields-returns-in_err-item-clause-turns
+structs::read_fields-returns-in_err-item-clause-turns = StructTurns.structs::read_fields-returns-in_err-item-clause-turns
 
 pub structs::read_fields-returns-in_err-put-clause-turns : goal.structs::read_fields-returns-in_err-put-clause-turns
-structs::read_fields-returns-in_err-put-clause-turns = Structs.structs::read_fields-returns-in_err-put-clause-turns
+structs::read_fields-returns-in_err-put-clause-turns = StructTurns.structs::read_fields-returns-in_err-put-clause-turns
 
 pub structs::read_fields-returns-in_err-read_comma-clause-turns : goal.structs::read_fields-returns-in_err-read_comma-clause-turns
-structs::read_fields-returns-in_err-read_comma-clause-turns = Structs.structs::read_fields-returns-in_err-read_comma-clause-turns
+structs::read_fields-returns-in_err-read_comma-clause-turns = StructTurns.structs::read_fields-returns-in_err-read_comma-clause-turns
 
 pub structs::read_fields-returns-clause-turns : goal.structs::read_fields-returns-clause-turns
-structs::read_fields-returns-clause-turns = Structs.structs::read_fields-returns-clause-turns
+structs::read_fields-returns-clause-turns = StructTurns.structs::read_fields-returns-clause-turns
 
 pub structs::read_fields_inside-returns-in_err-inner-clause-turns : goal.structs::read_fields_inside-returns-in_err-inner-clause-turns
-structs::read_fields_inside-returns-in_err-inner-clause-turns = Structs.structs::read_fields_inside-returns-in_err-inner-clause-turns
+structs::read_fields_inside-returns-in_err-inner-clause-turns = StructTurns.structs::read_fields_inside-returns-in_err-inner-clause-turns
 
 pub structs::read_fields_inside-returns-in_err-found-clause-turns : goal.structs::read_fields_inside-returns-in_err-found-clause-turns
-structs::read_fields_inside-returns-in_err-found-clause-turns = Structs.structs::read_fields_inside-returns-in_err-found-clause-turns
+structs::read_fields_inside-returns-in_err-found-clause-turns = StructTurns.structs::read_fields_inside-returns-in_err-found-clause-turns
 
 pub structs::read_fields_inside-returns-in_err-all-clause-turns : goal.structs::read_fields_inside-returns-in_err-all-clause-turns
-structs::read_fields_inside-returns-in_err-all-clause-turns = Structs.structs::read_fields_inside-returns-in_err-all-clause-turns
+structs::read_fields_inside-returns-in_err-all-clause-turns = StructTurns.structs::read_fields_inside-returns-in_err-all-clause-turns
 
 pub structs::read_field_group-returns-in_err-pass_gap-clause-turns : goal.structs::read_field_group-returns-in_err-pass_gap-clause-turns
-structs::read_field_group-returns-in_err-pass_gap-clause-turns = Structs.structs::read_field_group-returns-in_err-pass_gap-clause-turns
+structs::read_field_group-returns-in_err-pass_gap-clause-turns = StructTurns.structs::read_field_group-returns-in_err-pass_gap-clause-turns
 
 pub structs::read_field_group-returns-clause-turns : goal.structs::read_field_group-returns-clause-turns
-structs::read_field_group-returns-clause-turns = Structs.structs::read_field_group-returns-clause-turns
+structs::read_field_group-returns-clause-turns = StructTurns.structs::read_field_group-returns-clause-turns
 
 pub structs::read_struct-returns-then-opens_interval-clause-turns : goal.structs::read_struct-returns-then-opens_interval-clause-turns
-structs::read_struct-returns-then-opens_interval-clause-turns = Structs.structs::read_struct-returns-then-opens_interval-clause-turns
+structs::read_struct-returns-then-opens_interval-clause-turns = StructTurns.structs::read_struct-returns-then-opens_interval-clause-turns
 
 pub structs::read_struct-returns-in_err-read_name-clause-turns : goal.structs::read_struct-returns-in_err-read_name-clause-turns
-structs::read_struct-returns-in_err-read_name-clause-turns = Structs.structs::read_struct-returns-in_err-read_name-clause-turns
+structs::read_struct-returns-in_err-read_name-clause-turns = StructTurns.structs::read_struct-returns-in_err-read_name-clause-turns
 
 pub structs::read_struct-returns-in_err-own-clause-turns : goal.structs::read_struct-returns-in_err-own-clause-turns
-structs::read_struct-returns-in_err-own-clause-turns = Structs.structs::read_struct-returns-in_err-own-clause-turns
+structs::read_struct-returns-in_err-own-clause-turns = StructTurns.structs::read_struct-returns-in_err-own-clause-turns
 
 pub structs::read_struct-returns-then-not-take-clause-turns : goal.structs::read_struct-returns-then-not-take-clause-turns
-structs::read_struct-returns-then-not-take-clause-turns = Structs.structs::read_struct-returns-then-not-take-clause-turns
+structs::read_struct-returns-then-not-take-clause-turns = StructTurns.structs::read_struct-returns-then-not-take-clause-turns
 
 pub structs::read_struct-returns-in_err-fields-clause-turns : goal.structs::read_struct-returns-in_err-fields-clause-turns
-structs::read_struct-returns-in_err-fields-clause-turns = Structs.structs::read_struct-returns-in_err-fields-clause-turns
+structs::read_struct-returns-in_err-fields-clause-turns = StructTurns.structs::read_struct-returns-in_err-fields-clause-turns
 
 pub elements::read_element-returns-in_default-clause-turns : goal.elements::read_element-returns-in_default-clause-turns
 elements::read_element-returns-in_default-clause-turns = Elements.elements::read_element-returns-in_default-clause-turns
@@ -867,112 +869,112 @@ pub value::read_value-returns-in-Some-Raw-clause-turns : goal.value::read_value-
 value::read_value-returns-in-Some-Raw-clause-turns = Values.value::read_value-returns-in-Some-Raw-clause-turns
 
 pub bare::read_closed-returns-in_err-value-clause-turns : goal.bare::read_closed-returns-in_err-value-clause-turns
-bare::read_closed-returns-in_err-value-clause-turns = Bare.bare::read_closed-returns-in_err-value-clause-turns
+bare::read_closed-returns-in_err-value-clause-turns = BareTurns.bare::read_closed-returns-in_err-value-clause-turns
 
 pub bare::read_closed-returns-in_err-close_content-clause-turns : goal.bare::read_closed-returns-in_err-close_content-clause-turns
-bare::read_closed-returns-in_err-close_content-clause-turns = Bare.bare::read_closed-returns-in_err-close_content-clause-turns
+bare::read_closed-returns-in_err-close_content-clause-turns = BareTurns.bare::read_closed-returns-in_err-close_content-clause-turns
 
 pub bare::read_bare_newtype-returns-in_err-value-clause-turns : goal.bare::read_bare_newtype-returns-in_err-value-clause-turns
-bare::read_bare_newtype-returns-in_err-value-clause-turns = Bare.bare::read_bare_newtype-returns-in_err-value-clause-turns
+bare::read_bare_newtype-returns-in_err-value-clause-turns = BareTurns.bare::read_bare_newtype-returns-in_err-value-clause-turns
 
 pub bare::read_bare_newtype-returns-in_err-close_content-clause-turns : goal.bare::read_bare_newtype-returns-in_err-close_content-clause-turns
-bare::read_bare_newtype-returns-in_err-close_content-clause-turns = Bare.bare::read_bare_newtype-returns-in_err-close_content-clause-turns
+bare::read_bare_newtype-returns-in_err-close_content-clause-turns = BareTurns.bare::read_bare_newtype-returns-in_err-close_content-clause-turns
 
 pub bare::read_closed-returns-clause-turns : goal.bare::read_closed-returns-clause-turns
-bare::read_closed-returns-clause-turns = Bare.bare::read_closed-returns-clause-turns
+bare::read_closed-returns-clause-turns = BareTurns.bare::read_closed-returns-clause-turns
 
 pub bare::read_bare_newtype-returns-in_err-name-clause-turns : goal.bare::read_bare_newtype-returns-in_err-name-clause-turns
-bare::read_bare_newtype-returns-in_err-name-clause-turns = Bare.bare::read_bare_newtype-returns-in_err-name-clause-turns
+bare::read_bare_newtype-returns-in_err-name-clause-turns = BareTurns.bare::read_bare_newtype-returns-in_err-name-clause-turns
 
 pub bare::read_bare_newtype-returns-in_err-new-clause-turns : goal.bare::read_bare_newtype-returns-in_err-new-clause-turns
-bare::read_bare_newtype-returns-in_err-new-clause-turns = Bare.bare::read_bare_newtype-returns-in_err-new-clause-turns
+bare::read_bare_newtype-returns-in_err-new-clause-turns = BareTurns.bare::read_bare_newtype-returns-in_err-new-clause-turns
 
 pub bare::read_bare_option-returns-then-not-stands_alone-clause-turns : goal.bare::read_bare_option-returns-then-not-stands_alone-clause-turns
-bare::read_bare_option-returns-then-not-stands_alone-clause-turns = Bare.bare::read_bare_option-returns-then-not-stands_alone-clause-turns
+bare::read_bare_option-returns-then-not-stands_alone-clause-turns = BareTurns.bare::read_bare_option-returns-then-not-stands_alone-clause-turns
 
 pub bare::read_bare_option-returns-in_err-value-clause-turns : goal.bare::read_bare_option-returns-in_err-value-clause-turns
-bare::read_bare_option-returns-in_err-value-clause-turns = Bare.bare::read_bare_option-returns-in_err-value-clause-turns
+bare::read_bare_option-returns-in_err-value-clause-turns = BareTurns.bare::read_bare_option-returns-in_err-value-clause-turns
 
 pub bare::read_bare_option-returns-in_err-new-clause-turns : goal.bare::read_bare_option-returns-in_err-new-clause-turns
-bare::read_bare_option-returns-in_err-new-clause-turns = Bare.bare::read_bare_option-returns-in_err-new-clause-turns
+bare::read_bare_option-returns-in_err-new-clause-turns = BareTurns.bare::read_bare_option-returns-in_err-new-clause-turns
 
 pub bare::read_bare_items-returns-in_err-deeper-clause-turns : goal.bare::read_bare_items-returns-in_err-deeper-clause-turns
-bare::read_bare_items-returns-in_err-deeper-clause-turns = Bare.bare::read_bare_items-returns-in_err-deeper-clause-turns
+bare::read_bare_items-returns-in_err-deeper-clause-turns = BareTurns.bare::read_bare_items-returns-in_err-deeper-clause-turns
 
 pub bare::read_bare_items-returns-in_err-close_bare-clause-turns : goal.bare::read_bare_items-returns-in_err-close_bare-clause-turns
-bare::read_bare_items-returns-in_err-close_bare-clause-turns = Bare.bare::read_bare_items-returns-in_err-close_bare-clause-turns
+bare::read_bare_items-returns-in_err-close_bare-clause-turns = BareTurns.bare::read_bare_items-returns-in_err-close_bare-clause-turns
 
 pub bare::read_bare_items-returns-clause-turns : goal.bare::read_bare_items-returns-clause-turns
-bare::read_bare_items-returns-clause-turns = Bare.bare::read_bare_items-returns-clause-turns
+bare::read_bare_items-returns-clause-turns = BareTurns.bare::read_bare_items-returns-clause-turns
 
 pub bare::read_bare-returns-in_err-close_bare-in-Some-Unit-clause-turns : goal.bare::read_bare-returns-in_err-close_bare-in-Some-Unit-clause-turns
-bare::read_bare-returns-in_err-close_bare-in-Some-Unit-clause-turns = Bare.bare::read_bare-returns-in_err-close_bare-in-Some-Unit-clause-turns
+bare::read_bare-returns-in_err-close_bare-in-Some-Unit-clause-turns = BareTurns.bare::read_bare-returns-in_err-close_bare-in-Some-Unit-clause-turns
 
 pub bare::read_bare-returns-in_ok-close_bare-in-Some-Unit-clause-turns : goal.bare::read_bare-returns-in_ok-close_bare-in-Some-Unit-clause-turns
-bare::read_bare-returns-in_ok-close_bare-in-Some-Unit-clause-turns = Bare.bare::read_bare-returns-in_ok-close_bare-in-Some-Unit-clause-turns
+bare::read_bare-returns-in_ok-close_bare-in-Some-Unit-clause-turns = BareTurns.bare::read_bare-returns-in_ok-close_bare-in-Some-Unit-clause-turns
 
 pub bare::read_bare-returns-then-opens_interval-clause-turns : goal.bare::read_bare-returns-then-opens_interval-clause-turns
-bare::read_bare-returns-then-opens_interval-clause-turns = Bare.bare::read_bare-returns-then-opens_interval-clause-turns
+bare::read_bare-returns-then-opens_interval-clause-turns = BareTurns.bare::read_bare-returns-then-opens_interval-clause-turns
 
 pub bare::read_bare-returns-then-opens_interval-2-clause-turns : goal.bare::read_bare-returns-then-opens_interval-2-clause-turns
-bare::read_bare-returns-then-opens_interval-2-clause-turns = Bare.bare::read_bare-returns-then-opens_interval-2-clause-turns
+bare::read_bare-returns-then-opens_interval-2-clause-turns = BareTurns.bare::read_bare-returns-then-opens_interval-2-clause-turns
 
 pub bare::read_bare-returns-in_err-close_bare-in-Some-UnitStruct-clause-turns : goal.bare::read_bare-returns-in_err-close_bare-in-Some-UnitStruct-clause-turns
-bare::read_bare-returns-in_err-close_bare-in-Some-UnitStruct-clause-turns = Bare.bare::read_bare-returns-in_err-close_bare-in-Some-UnitStruct-clause-turns
+bare::read_bare-returns-in_err-close_bare-in-Some-UnitStruct-clause-turns = BareTurns.bare::read_bare-returns-in_err-close_bare-in-Some-UnitStruct-clause-turns
 
 pub bare::read_bare-returns-in_err-from_str-in-Some-UnitStruct-clause-turns : goal.bare::read_bare-returns-in_err-from_str-in-Some-UnitStruct-clause-turns
-bare::read_bare-returns-in_err-from_str-in-Some-UnitStruct-clause-turns = Bare.bare::read_bare-returns-in_err-from_str-in-Some-UnitStruct-clause-turns
+bare::read_bare-returns-in_err-from_str-in-Some-UnitStruct-clause-turns = BareTurns.bare::read_bare-returns-in_err-from_str-in-Some-UnitStruct-clause-turns
 
 pub bare::read_bare-returns-in_ok-from_str-in-Some-UnitStruct-clause-turns : goal.bare::read_bare-returns-in_ok-from_str-in-Some-UnitStruct-clause-turns
-bare::read_bare-returns-in_ok-from_str-in-Some-UnitStruct-clause-turns = Bare.bare::read_bare-returns-in_ok-from_str-in-Some-UnitStruct-clause-turns
+bare::read_bare-returns-in_ok-from_str-in-Some-UnitStruct-clause-turns = BareTurns.bare::read_bare-returns-in_ok-from_str-in-Some-UnitStruct-clause-turns
 
 pub bare::read_bare-returns-in_err-items-in-Some-Tuple-clause-turns : goal.bare::read_bare-returns-in_err-items-in-Some-Tuple-clause-turns
-bare::read_bare-returns-in_err-items-in-Some-Tuple-clause-turns = Bare.bare::read_bare-returns-in_err-items-in-Some-Tuple-clause-turns
+bare::read_bare-returns-in_err-items-in-Some-Tuple-clause-turns = BareTurns.bare::read_bare-returns-in_err-items-in-Some-Tuple-clause-turns
 
 pub bare::read_bare-returns-in_err-items-in-Some-TupleStruct-clause-turns : goal.bare::read_bare-returns-in_err-items-in-Some-TupleStruct-clause-turns
-bare::read_bare-returns-in_err-items-in-Some-TupleStruct-clause-turns = Bare.bare::read_bare-returns-in_err-items-in-Some-TupleStruct-clause-turns
+bare::read_bare-returns-in_err-items-in-Some-TupleStruct-clause-turns = BareTurns.bare::read_bare-returns-in_err-items-in-Some-TupleStruct-clause-turns
 
 pub bare::read_bare-returns-in_err-from_str-in-Some-TupleStruct-clause-turns : goal.bare::read_bare-returns-in_err-from_str-in-Some-TupleStruct-clause-turns
-bare::read_bare-returns-in_err-from_str-in-Some-TupleStruct-clause-turns = Bare.bare::read_bare-returns-in_err-from_str-in-Some-TupleStruct-clause-turns
+bare::read_bare-returns-in_err-from_str-in-Some-TupleStruct-clause-turns = BareTurns.bare::read_bare-returns-in_err-from_str-in-Some-TupleStruct-clause-turns
 
 pub bare::read_bare-returns-in_err-fields-in-Some-Struct-clause-turns : goal.bare::read_bare-returns-in_err-fields-in-Some-Struct-clause-turns
-bare::read_bare-returns-in_err-fields-in-Some-Struct-clause-turns = Bare.bare::read_bare-returns-in_err-fields-in-Some-Struct-clause-turns
+bare::read_bare-returns-in_err-fields-in-Some-Struct-clause-turns = BareTurns.bare::read_bare-returns-in_err-fields-in-Some-Struct-clause-turns
 
 pub bare::read_bare-returns-in_err-from_str-in-Some-Struct-clause-turns : goal.bare::read_bare-returns-in_err-from_str-in-Some-Struct-clause-turns
-bare::read_bare-returns-in_err-from_str-in-Some-Struct-clause-turns = Bare.bare::read_bare-returns-in_err-from_str-in-Some-Struct-clause-turns
+bare::read_bare-returns-in_err-from_str-in-Some-Struct-clause-turns = BareTurns.bare::read_bare-returns-in_err-from_str-in-Some-Struct-clause-turns
 
 pub bare::read_bare-returns-in-Some-Bool-clause-turns : goal.bare::read_bare-returns-in-Some-Bool-clause-turns
-bare::read_bare-returns-in-Some-Bool-clause-turns = Bare.bare::read_bare-returns-in-Some-Bool-clause-turns
+bare::read_bare-returns-in-Some-Bool-clause-turns = BareTurns.bare::read_bare-returns-in-Some-Bool-clause-turns
 
 pub bare::read_bare-returns-in-Some-Int-clause-turns : goal.bare::read_bare-returns-in-Some-Int-clause-turns
-bare::read_bare-returns-in-Some-Int-clause-turns = Bare.bare::read_bare-returns-in-Some-Int-clause-turns
+bare::read_bare-returns-in-Some-Int-clause-turns = BareTurns.bare::read_bare-returns-in-Some-Int-clause-turns
 
 pub bare::read_bare-returns-in-Some-Char-clause-turns : goal.bare::read_bare-returns-in-Some-Char-clause-turns
-bare::read_bare-returns-in-Some-Char-clause-turns = Bare.bare::read_bare-returns-in-Some-Char-clause-turns
+bare::read_bare-returns-in-Some-Char-clause-turns = BareTurns.bare::read_bare-returns-in-Some-Char-clause-turns
 
 pub bare::read_bare-returns-in-Some-Str-clause-turns : goal.bare::read_bare-returns-in-Some-Str-clause-turns
-bare::read_bare-returns-in-Some-Str-clause-turns = Bare.bare::read_bare-returns-in-Some-Str-clause-turns
+bare::read_bare-returns-in-Some-Str-clause-turns = BareTurns.bare::read_bare-returns-in-Some-Str-clause-turns
 
 pub bare::read_bare-returns-in-Some-Bytes-clause-turns : goal.bare::read_bare-returns-in-Some-Bytes-clause-turns
-bare::read_bare-returns-in-Some-Bytes-clause-turns = Bare.bare::read_bare-returns-in-Some-Bytes-clause-turns
+bare::read_bare-returns-in-Some-Bytes-clause-turns = BareTurns.bare::read_bare-returns-in-Some-Bytes-clause-turns
 
 pub bare::read_bare-returns-in-Some-Seq-clause-turns : goal.bare::read_bare-returns-in-Some-Seq-clause-turns
-bare::read_bare-returns-in-Some-Seq-clause-turns = Bare.bare::read_bare-returns-in-Some-Seq-clause-turns
+bare::read_bare-returns-in-Some-Seq-clause-turns = BareTurns.bare::read_bare-returns-in-Some-Seq-clause-turns
 
 pub bare::read_bare-returns-in-Some-Map-clause-turns : goal.bare::read_bare-returns-in-Some-Map-clause-turns
-bare::read_bare-returns-in-Some-Map-clause-turns = Bare.bare::read_bare-returns-in-Some-Map-clause-turns
+bare::read_bare-returns-in-Some-Map-clause-turns = BareTurns.bare::read_bare-returns-in-Some-Map-clause-turns
 
 pub bare::read_bare-returns-in-Some-Enum-clause-turns : goal.bare::read_bare-returns-in-Some-Enum-clause-turns
-bare::read_bare-returns-in-Some-Enum-clause-turns = Bare.bare::read_bare-returns-in-Some-Enum-clause-turns
+bare::read_bare-returns-in-Some-Enum-clause-turns = BareTurns.bare::read_bare-returns-in-Some-Enum-clause-turns
 
 pub bare::read_bare-returns-in-Some-Raw-clause-turns : goal.bare::read_bare-returns-in-Some-Raw-clause-turns
-bare::read_bare-returns-in-Some-Raw-clause-turns = Bare.bare::read_bare-returns-in-Some-Raw-clause-turns
+bare::read_bare-returns-in-Some-Raw-clause-turns = BareTurns.bare::read_bare-returns-in-Some-Raw-clause-turns
 
 pub bare::read_bare-returns-in-Some-Value-clause-turns : goal.bare::read_bare-returns-in-Some-Value-clause-turns
-bare::read_bare-returns-in-Some-Value-clause-turns = Bare.bare::read_bare-returns-in-Some-Value-clause-turns
+bare::read_bare-returns-in-Some-Value-clause-turns = BareTurns.bare::read_bare-returns-in-Some-Value-clause-turns
 
 pub bare::read_bare-returns-in-Some-Newtype-clause-turns : goal.bare::read_bare-returns-in-Some-Newtype-clause-turns
-bare::read_bare-returns-in-Some-Newtype-clause-turns = Bare.bare::read_bare-returns-in-Some-Newtype-clause-turns
+bare::read_bare-returns-in-Some-Newtype-clause-turns = BareTurns.bare::read_bare-returns-in-Some-Newtype-clause-turns
 
 pub options::read_option-returns-then-take_none-clause-turns : goal.options::read_option-returns-then-take_none-clause-turns
 options::read_option-returns-then-take_none-clause-turns = Options.options::read_option-returns-then-take_none-clause-turns
@@ -1099,7 +1101,7 @@ pub newtypes::read_held-returns-in_err-from_str-clause-turns : goal.newtypes::re
 newtypes::read_held-returns-in_err-from_str-clause-turns = Newtypes.newtypes::read_held-returns-in_err-from_str-clause-turns
 
 pub structs::read_struct-returns-in_err-from_str-clause-turns : goal.structs::read_struct-returns-in_err-from_str-clause-turns
-structs::read_struct-returns-in_err-from_str-clause-turns = Structs.structs::read_struct-returns-in_err-from_str-clause-turns
+structs::read_struct-returns-in_err-from_str-clause-turns = StructTurns.structs::read_struct-returns-in_err-from_str-clause-turns
 
 pub tuples::read_tuple_struct-returns-in_err-from_str-clause-turns : goal.tuples::read_tuple_struct-returns-in_err-from_str-clause-turns
 tuples::read_tuple_struct-returns-in_err-from_str-clause-turns = Tuples.tuples::read_tuple_struct-returns-in_err-from_str-clause-turns
@@ -1111,7 +1113,7 @@ pub value::read_value-unreachable-requires : goal.value::read_value-unreachable-
 value::read_value-unreachable-requires = Values.value::read_value-unreachable-requires
 
 pub bare::read_bare-returns-in-Some-Value-clause-advance : goal.bare::read_bare-returns-in-Some-Value-clause-advance
-bare::read_bare-returns-in-Some-Value-clause-advance = Bare.bare::read_bare-returns-in-Some-Value-clause-advance
+bare::read_bare-returns-in-Some-Value-clause-advance = BareTurns.bare::read_bare-returns-in-Some-Value-clause-advance
 
 pub content::read_below-returns-clause-advance : goal.content::read_below-returns-clause-advance
 content::read_below-returns-clause-advance = Content.content::read_below-returns-clause-advance

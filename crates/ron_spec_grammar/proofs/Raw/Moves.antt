@@ -24,7 +24,8 @@ use Rattle.ron_spec_grammar.proofs.Shapes.Units.{empty_solid}
 use Rattle.ron_spec_grammar.proofs.Shapes.Texts.{char_solid, string_solid}
 use Rattle.ron_spec_grammar.proofs.Shapes.Bytes.{byte_string_solid}
 use Rattle.ron_spec_words.specs.Characters.{continues_word}
-use Rattle.ron_spec_grammar.proofs.Raw.Quiet.{Quiet, quiet_gap, quiet_value, Settled, steady_char, steady_string, steady_byte_string, steady_empty, settled, settled_name, settled_untyped_name, settled_fixed}
+use Rattle.ron_spec_grammar.proofs.Raw.Quiet.{Quiet, quiet_gap, quiet_value, Settled, steady_char, steady_string, steady_byte_string, steady_empty, settled}
+use Rattle.ron_spec_grammar.proofs.Raw.Settled.{settled_name, settled_untyped_name, settled_fixed}
 use Rattle.ron_spec_words.proofs.Ranges.{interval_solid}
 use Rattle.ron_spec_grammar.proofs.Raw.Points.{interval_moves}
 

@@ -14,7 +14,8 @@ use Rattle.ron_spec_words.specs.Directly.{stands}
 use Rattle.ron_spec_words.specs.Number.{Suffix, suffix_word, OptSuffix, in_number, opens_base, Numeral, Unsigned, Number}
 use Rattle.ron_spec_words.specs.AnyInteger.{starts_integer, in_float, before_dots, is_float, AnyInteger, UntypedInteger}
 use Rattle.ron_spec_words.specs.Range.{Interval, one, range, up_to, is_open, Points, opens_points, BehindNumber, NumberOrRange}
-use Rattle.ron_spec_grammar.proofs.Raw.Quiet.{quiet_value, Digits, magnitude_over, settled_integer, steady_byte_numeral}
+use Rattle.ron_spec_grammar.proofs.Raw.Quiet.{quiet_value}
+use Rattle.ron_spec_grammar.proofs.Raw.Settled.{Digits, magnitude_over, settled_integer, steady_byte_numeral}
 
 -- the two begin with points
 abbrev dotted : Text → Text
