@@ -153,6 +153,7 @@ pub fn push_ok(json: &mut String, alloc: Global, text: &str) -> Result<(), Alloc
 pub struct Writing {
     pub options: Options,
     pub config: Option<PrettyConfig>,
+    pub detail: Detail,
 }
 
 pub fn writing_of(
@@ -164,5 +165,6 @@ pub fn writing_of(
     Ok(Writing {
         options: options_of(request, extensions, limit)?,
         config: config_of(alloc, request)?,
+        detail: detail_of(request),
     })
 }

@@ -152,13 +152,11 @@ pub fn write_io(json: &mut String, alloc: Global, request: &Value) -> Result<()>
         most,
     };
     let answer = write_asked(alloc, request, &mut device)?;
-    Ok(push_taken(
-        json,
-        alloc,
+    let taken = Taken {
         answer,
-        device.taken.as_slice(),
-        detail_of(request),
-    )?)
+        bytes: device.taken.as_slice(),
+    };
+    Ok(push_taken(json, alloc, taken, detail_of(request))?)
 }
 
 /// What comes of writing the request's data to the device.
@@ -189,7 +187,11 @@ fn write_bytes<W: io::Write>(
     data: &Data,
     writing: Writing,
 ) -> Result<(), Error> {
-    let Writing { options, config } = writing;
+    let Writing {
+        options,
+        config,
+        ..
+    } = writing;
     options.to_sink_data(alloc, &mut Writer::new(device), data, config)
 }
 
@@ -219,7 +221,11 @@ pub fn write_fmt(json: &mut String, alloc: Global, request: &Value) -> Result<()
         room,
     };
     let answer = write_text(alloc, request, writer)?;
-    Ok(push_taken(json, alloc, answer, text.as_bytes(), detail_of(request))?)
+    let taken = Taken {
+        answer,
+        bytes: text.as_bytes(),
+    };
+    Ok(push_taken(json, alloc, taken, detail_of(request))?)
 }
 
 /// What comes of writing the request's data to the writer of text.
@@ -250,24 +256,35 @@ fn write_pieces<W: fmt::Write + Drop>(
     data: &Data,
     writing: Writing,
 ) -> Result<(), Error> {
-    let Writing { options, config } = writing;
+    let Writing {
+        options,
+        config,
+        ..
+    } = writing;
     let mut serializer = Serializer::with_options(alloc, writer, config, &options)?;
     serializer.write(data)
 }
 
-/// Appends what came of writing, and what was taken until then.
+/// What came of writing, and what was taken until then.
+#[derive(Drop)]
+struct Taken<'a> {
+    answer: Result<(), Error>,
+    bytes: &'a [u8],
+}
+
+/// Appends what came of writing.
 fn push_taken(
     json: &mut String,
     alloc: Global,
-    answer: Result<(), Error>,
-    taken: &[u8],
+    taken: Taken,
     detail: Detail,
 ) -> Result<(), AllocError> {
+    let Taken { answer, bytes } = taken;
     match answer {
         Ok(()) => json.push_str("\"ok\":null")?,
         Err(refused) => push_refused(json, alloc, refused, detail)?,
     }
-    let text = String::from_utf8_lossy(alloc, taken)?;
+    let text = String::from_utf8_lossy(alloc, bytes)?;
     json.push_str(",\"written\":")?;
     push_text(json, alloc, text.as_str())
 }

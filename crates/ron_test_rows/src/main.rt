@@ -12,6 +12,7 @@ mod asked;
 mod damage;
 mod deep;
 mod devices;
+mod growths;
 mod operation;
 mod options;
 mod refused;

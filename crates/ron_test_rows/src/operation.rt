@@ -81,29 +81,27 @@ fn converted(json: &mut String, alloc: Global, request: &Value) -> Result<()> {
 
 /// Reads an untyped value.
 fn value(json: &mut String, alloc: Global, request: &Value) -> Result<()> {
-    let input = input_of(alloc, request)?;
-    value_in(json, alloc, request, &input)
+    push_value_read(json, alloc, &untyped_reading_of(alloc, request)?)
 }
 
-fn value_in(json: &mut String, alloc: Global, request: &Value, input: &Input) -> Result<()> {
+fn untyped_reading_of(alloc: Global, request: &Value) -> Result<Reading> {
+    let input = input_of(alloc, request)?;
     let Ok(schema) = Schema::new(vec![in alloc; Shape::Value]?, 0) else {
         bail!("no memory")
     };
-    value_by(json, alloc, request, input, &schema)
+    Ok(Reading {
+        schema,
+        options: options_of(request, "ext", "limit")?,
+        input,
+        detail: detail_of(request),
+    })
 }
 
-fn value_by(
-    json: &mut String,
-    alloc: Global,
-    request: &Value,
-    input: &Input,
-    schema: &Schema,
-) -> Result<()> {
-    let options = options_of(request, "ext", "limit")?;
-    match read_input(alloc, input, &options, schema) {
+fn push_value_read(json: &mut String, alloc: Global, asked: &Reading) -> Result<()> {
+    match read_input(alloc, &asked.input, &asked.options, &asked.schema) {
         Ok(Data::Value(value)) => Ok(push_value_ok(json, alloc, value)?),
         Ok(_) => bail!("no value"),
-        Err(refused) => Ok(push_refused_at(json, alloc, refused, detail_of(request))?),
+        Err(refused) => Ok(push_refused_at(json, alloc, refused, asked.detail)?),
     }
 }
 
@@ -141,7 +139,7 @@ fn write_asked(json: &mut String, alloc: Global, request: &Value) -> Result<()> 
 
 fn write_data(json: &mut String, alloc: Global, request: &Value, data: &Data) -> Result<()> {
     let writing = writing_of(alloc, request, "ext", "limit")?;
-    Ok(push_written(json, alloc, data, writing, detail_of(request))?)
+    Ok(push_written(json, alloc, data, writing)?)
 }
 
 fn push_written(
@@ -149,9 +147,12 @@ fn push_written(
     alloc: Global,
     data: &Data,
     writing: Writing,
-    detail: Detail,
 ) -> Result<(), AllocError> {
-    let Writing { options, config } = writing;
+    let Writing {
+        options,
+        config,
+        detail,
+    } = writing;
     match options.to_string_data(alloc, data, config) {
         Ok(text) => push_ok(json, alloc, text.as_str()),
         Err(refused) => push_refused(json, alloc, refused, detail),
@@ -167,7 +168,7 @@ fn rewrite(
 ) -> Result<(), AllocError> {
     match read_input(alloc, &asked.input, &asked.options, &asked.schema) {
         Ok(data) => {
-            let both = push_both(json, alloc, &data, writing, asked.detail);
+            let both = push_both(json, alloc, &data, writing);
             drop(data);
             both
         }
@@ -181,12 +182,11 @@ fn push_both(
     alloc: Global,
     data: &Data,
     writing: Writing,
-    detail: Detail,
 ) -> Result<(), AllocError> {
     json.push_str("\"data\":")?;
     push_data(json, alloc, data)?;
     json.push(',')?;
-    push_written(json, alloc, data, writing, detail)
+    push_written(json, alloc, data, writing)
 }
 
 fn message(json: &mut String, alloc: Global, request: &Value) -> Result<()> {
@@ -203,7 +203,10 @@ fn steps(json: &mut String, alloc: Global, request: &Value) -> Result<()> {
     let detail = detail_of(request);
     let list = steps_of(alloc, request)?;
     match reader_over(alloc, &input, &options) {
-        Ok(reader) => Ok(take_steps(json, alloc, reader, list.as_slice(), detail)?),
+        Ok(reader) => {
+            let stepper = Stepper { reader, detail };
+            Ok(take_steps(json, alloc, stepper, list.as_slice())?)
+        }
         Err(refused) => Ok(push_refused_at(json, alloc, refused, detail)?),
     }
 }
@@ -247,19 +250,25 @@ fn step_of(alloc: Global, request: &Value, step: &Value) -> Result<Step> {
     }
 }
 
+/// A reader that takes steps, and how much is told of one that it refuses.
+#[derive(Drop)]
+struct Stepper<'de> {
+    reader: Deserializer<'de>,
+    detail: Detail,
+}
+
 fn take_steps(
     json: &mut String,
     alloc: Global,
-    reader: Deserializer,
+    stepper: Stepper,
     list: &[Step],
-    detail: Detail,
 ) -> Result<(), AllocError> {
-    let mut reader = reader;
-    let rest = reader.remainder();
+    let mut stepper = stepper;
+    let rest = stepper.reader.remainder();
     json.push_str("\"ok\":[")?;
     for step in list {
         separate(json)?;
-        take_step(json, alloc, &mut reader, step, detail)?;
+        take_step(json, alloc, &mut stepper, step)?;
     }
     json.push(']')?;
     push_rest(json, alloc, rest)
@@ -269,17 +278,19 @@ fn take_steps(
 fn take_step(
     json: &mut String,
     alloc: Global,
-    reader: &mut Deserializer,
+    stepper: &mut Stepper,
     step: &Step,
-    detail: Detail,
 ) -> Result<(), AllocError> {
     json.push('{')?;
-    match outcome(reader, step) {
+    match outcome(&mut stepper.reader, step) {
         Ok(Some(data)) => push_data_between(json, alloc, data)?,
         Ok(None) => json.push_str("\"ok\":null")?,
-        Err(code) => push_refused_between(json, alloc, reader.span_error(code), detail)?,
+        Err(code) => {
+            let refused = stepper.reader.span_error(code);
+            push_refused_between(json, alloc, refused, stepper.detail)?
+        }
     }
-    push_rest(json, alloc, reader.remainder())?;
+    push_rest(json, alloc, stepper.reader.remainder())?;
     Ok(json.push('}')?)
 }
 

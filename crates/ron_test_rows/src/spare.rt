@@ -1,4 +1,5 @@
 //! Calls that take no memory.
+use crate::growths::is_written_as_it_stands;
 use crate::refused::{refuse, was_refused};
 use anyhow::{Result, bail};
 use ron::error::{Error, Position};
@@ -12,7 +13,7 @@ use std::alloc::{AllocError, Global};
 use std::fmt::Write;
 
 /// Makes each of these calls while all growths of memory are refused. It appends, by what they are calls of, whether they
-/// answered as they should and asked for none.
+/// answered as they should and asked for none; of values, whether writing them asked for that of the text alone.
 pub fn push_spare(json: &mut String, alloc: Global) -> Result<()> {
     let errors = errors_are_made(alloc)?;
     let fields = fields_are_used(alloc)?;
@@ -22,13 +23,14 @@ pub fn push_spare(json: &mut String, alloc: Global) -> Result<()> {
     let sets = sets_are_used(alloc)?;
     let settings = settings_are_used(alloc)?;
     let texts = texts_are_used(alloc)?;
+    let values = is_written_as_it_stands(alloc)?;
     write!(
         json,
         "\"ok\":{{\"errors\":{errors},\"fields\":{fields},\"maps\":{maps},\"readers\":{readers},"
     )?;
     write!(
         json,
-        "\"schemas\":{schemas},\"sets\":{sets},\"settings\":{settings},\"texts\":{texts}}}"
+        "\"schemas\":{schemas},\"sets\":{sets},\"settings\":{settings},\"texts\":{texts},\"values\":{values}}}"
     )?;
     Ok(())
 }

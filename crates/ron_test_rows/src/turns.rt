@@ -2,8 +2,8 @@
 use crate::asked::read_whole;
 use crate::options::options_of;
 use anyhow::{Result, bail};
-use ron::Deserializer;
 use ron::schema::Schema;
+use ron::{Deserializer, Options};
 use ron_test_requests::json::{count_of, items_of, member, text_of};
 use ron_test_requests::schema::schema_of;
 use serde_json::Value;
@@ -14,31 +14,55 @@ use std::fmt::Write;
 /// and whether the turns that this took are within the bound of the text and the schema, and within `least` and `most`
 /// where these are told; or else how many there were.
 pub fn push_turns(json: &mut String, alloc: Global, request: &Value) -> Result<()> {
-    let text = text_of_pieces(alloc, items_of(member(request, "pieces")?)?)?;
-    push_turns_of(json, alloc, request, text.as_str())
+    let account = account_of(alloc, &counting_of(alloc, request)?)?;
+    Ok(push_account(json, account)?)
 }
 
-fn push_turns_of(json: &mut String, alloc: Global, request: &Value, text: &str) -> Result<()> {
-    let schema = schema_of(alloc, request, 0)?;
-    push_turns_by(json, alloc, request, text, &schema)
+/// What is read, and the least and the most turns that it is to take.
+#[derive(Drop)]
+struct Counting {
+    text: String,
+    schema: Schema,
+    least: u128,
+    most: u128,
+    options: Options,
 }
 
-fn push_turns_by(
-    json: &mut String,
-    alloc: Global,
-    request: &Value,
-    text: &str,
-    schema: &Schema,
-) -> Result<()> {
-    let least = bound_of(request, "least", 0)?;
-    let most = bound_of(request, "most", u128::MAX)?;
-    let options = options_of(request, "ext", "limit")?;
-    let (is_read, turns) = match Deserializer::from_str_with_options(alloc, text, &options) {
-        Ok(reader) => turns_of(reader, schema),
+fn counting_of(alloc: Global, request: &Value) -> Result<Counting> {
+    Ok(Counting {
+        text: text_of_pieces(alloc, items_of(member(request, "pieces")?)?)?,
+        schema: schema_of(alloc, request, 0)?,
+        least: bound_of(request, "least", 0)?,
+        most: bound_of(request, "most", u128::MAX)?,
+        options: options_of(request, "ext", "limit")?,
+    })
+}
+
+/// How many bytes a text has, whether it was read, in how many turns, and whether these are within the bounds.
+#[derive(Clone, Copy)]
+struct Account {
+    bytes: usize,
+    is_read: bool,
+    turns: u128,
+    is_within: bool,
+}
+
+fn account_of(alloc: Global, counting: &Counting) -> Result<Account> {
+    let text = counting.text.as_str();
+    let reader = Deserializer::from_str_with_options(alloc, text, &counting.options);
+    let (is_read, turns) = match reader {
+        Ok(reader) => turns_of(reader, &counting.schema),
         Err(_) => bail!("no reader"),
     };
-    let is_within = least <= turns && turns <= most && turns <= allowed(text.len(), schema.chain());
-    Ok(push_account(json, text.len(), is_read, turns, is_within)?)
+    let most = counting
+        .most
+        .min(allowed(text.len(), counting.schema.chain()));
+    Ok(Account {
+        bytes: text.len(),
+        is_read,
+        turns,
+        is_within: counting.least <= turns && turns <= most,
+    })
 }
 
 /// Whether a value and the end are read, and how many turns that takes.
@@ -48,13 +72,13 @@ fn turns_of(reader: Deserializer, schema: &Schema) -> (bool, u128) {
     (is_read, reader.turns())
 }
 
-fn push_account(
-    json: &mut String,
-    bytes: usize,
-    is_read: bool,
-    turns: u128,
-    is_within: bool,
-) -> Result<(), AllocError> {
+fn push_account(json: &mut String, account: Account) -> Result<(), AllocError> {
+    let Account {
+        bytes,
+        is_read,
+        turns,
+        is_within,
+    } = account;
     write!(
         json,
         "\"ok\":{{\"bytes\":{bytes},\"read\":{is_read},\"within\":{is_within}}}"
