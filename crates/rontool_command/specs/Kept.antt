@@ -1,5 +1,5 @@
--- What laying out leaves of files.
-use Rattle.std.specs.Prelude.{◌≡◌, ◌||◌, ◌⊎◌, ℕ, Bool, false, List, ◌∷◌, Option, Some, None, String, chars, string_bytes}
+-- What a run leaves of files.
+use Rattle.std.specs.Prelude.{◌≡◌, ◌||◌, ◌⊎◌, ℕ, Bool, false, List, ◌∷◌, ◌++◌, Option, Some, None, String, chars, string_bytes}
 use Rattle.std.specs.Borrow.{Bor}
 use Rattle.std.specs.declared.alloc.Global.{Global}
 use Rattle.ron_spec_words.specs.Characters.{Text}
@@ -21,16 +21,29 @@ pub data Relaid : Text → Text → Type 0 where
   behind : (s u : Text) → Kept s u → Relaid (utf8_mark ∷ s) (utf8_mark ∷ u)
   again : (s t u : Text) → Relaid s t → Relaid t u → Relaid s u
 
--- What a path has afterwards: what it had; its file's text laid out, under the same permissions; or, where nothing stood, a new file's beginning.
-pub data Keeps (before after : Paths) (at : List ℕ) : Type 0 where
-  same : after at ≡ before at → Keeps before after at
-  relaid : (mode : ℕ) (old new : List ℕ) → before at ≡ Some (file mode old) → after at ≡ Some (file mode new) → Relaid (chars old) (chars new)
-      → Keeps before after at
-  begun : (path : List ℕ) → at ≡ new_path path → before at ≡ None → Keeps before after at
+-- A text with a value put in the place of a stretch of it: what stands before the stretch and what follows it are the same.
+pub record HasPut (value s u : Text) : Type 0 where
+  pub front : Text
+  pub old : Text
+  pub behind : Text
+  pub was : s ≡ front ++ (old ++ behind)
+  pub is : u ≡ front ++ (value ++ behind)
+
+-- What a path has afterwards: what it had; its file's text changed so, under the same permissions; or, where nothing stood, a new file's beginning.
+pub data Keeps (Changed : Text → Text → Type 0) (before after : Paths) (at : List ℕ) : Type 0 where
+  same : after at ≡ before at → Keeps Changed before after at
+  changed : (mode : ℕ) (old new : List ℕ) → before at ≡ Some (file mode old) → after at ≡ Some (file mode new) → Changed (chars old) (chars new)
+      → Keeps Changed before after at
+  begun : (path : List ℕ) → at ≡ new_path path → before at ≡ None → Keeps Changed before after at
 
 -- so at each path
-abbrev pub KeepsAll : Paths → Paths → Type 0
-KeepsAll before after = (at : List ℕ) → Keeps before after at
+abbrev pub KeepsAll : (Text → Text → Type 0) → Paths → Paths → Type 0
+KeepsAll Changed before after = (at : List ℕ) → Keeps Changed before after at
+
+-- Each file has what it had, or all files that changed are laid out, or one of them has another value in the place of one.
+pub data KeepsText (before after : Paths) : Type 0 where
+  relaid : KeepsAll Relaid before after → KeepsText before after
+  put : (value : Text) → KeepsAll (HasPut value) before after → KeepsText before after
 
 -- nothing is to be written
 abbrev pub only_looks : Formatting → Bool

@@ -6,9 +6,9 @@ ghost use Rattle.rontool_command.specs.Told.{TellsAll};
 
 use crate::ask::Formatting;
 use crate::diff::push_diff;
-use crate::opening::{MARK, behind_mark, is_stream, open_file, tell_all, valid_front};
+use crate::opening::{MARK, behind_mark, is_stream, open_file, tell_all, text_of};
 use crate::report::Report;
-use crate::told::{Named, tell_bytes, tell_refusal};
+use crate::told::{Named, tell_refusal};
 use ron_base::error::{Error, Position, Span, SpannedError, SpannedResult};
 use ron_format::format;
 use ron_format::layout::Layout;
@@ -27,7 +27,7 @@ pub(crate) fn format_all<S: Store, R: Read>(
     store: &mut S,
     input: &mut R,
 ) -> Result<Report, AllocError>
-    ensures kept { S.told → KeepsAll (S.stands store.old) (S.stands store.new) }
+    ensures kept { S.told → KeepsAll Relaid (S.stands store.old) (S.stands store.new) }
     ensures same { S.told → only_looks asked.now ≡ true → S.stands store.new ≡ S.stands store.old }
     ensures untouched { only_looks asked.now ≡ true → S.changes store.new ≡ S.changes store.old }
     ensures tells { IfOk result TellsAll }
@@ -56,7 +56,7 @@ fn format_files<S: Store>(
     store: &mut S,
     paths: &[String],
 ) -> Result<(), AllocError>
-    ensures kept { S.told → KeepsAll (S.stands store.old) (S.stands store.new) }
+    ensures kept { S.told → KeepsAll Relaid (S.stands store.old) (S.stands store.new) }
     ensures same { S.told → only_looks asked.now ≡ true → S.stands store.new ≡ S.stands store.old }
     ensures untouched { only_looks asked.now ≡ true → S.changes store.new ≡ S.changes store.old }
     ensures tells { TellsAll report.old → OnOk result (TellsAll report.new) }
@@ -97,7 +97,7 @@ fn format_file<S: Store>(
     store: &mut S,
     path: &str,
 ) -> Result<(), AllocError>
-    ensures kept { S.told → KeepsAll (S.stands store.old) (S.stands store.new) }
+    ensures kept { S.told → KeepsAll Relaid (S.stands store.old) (S.stands store.new) }
     ensures same { S.told → only_looks asked.now ≡ true → S.stands store.new ≡ S.stands store.old }
     ensures untouched { only_looks asked.now ≡ true → S.changes store.new ≡ S.changes store.old }
     ensures tells { TellsAll report.old → OnOk result (TellsAll report.new) }
@@ -117,9 +117,9 @@ fn format_file<S: Store>(
 
 /// A path as it was given, and the path of the file that it leads to.
 #[derive(Clone, Copy)]
-struct Target<'a> {
-    path: &'a str,
-    file: &'a str,
+pub(crate) struct Target<'a> {
+    pub path: &'a str,
+    pub file: &'a str,
 }
 
 /// Replaces a file by its text laid out.
@@ -130,7 +130,7 @@ fn put_in_place<S: Store>(
     laid: &[u8],
 ) -> Result<(), AllocError>
     ensures kept { S.told → (old : List ℕ) → bytes_of (S.stands store.old target.entry.file.now) ≡ Some old → Relaid (chars old) (chars laid.now)
-        → KeepsAll (S.stands store.old) (S.stands store.new) }
+        → KeepsAll Relaid (S.stands store.old) (S.stands store.new) }
     ensures tells { TellsAll report.old → OnOk result (TellsAll report.new) }
 {
     match replace_file(report.alloc, store, target.file, laid) {
@@ -150,13 +150,8 @@ fn lay_out_bytes<'b>(
     ensures tells { TellsAll report.old → OnOk result (TellsAll report.new) }
 {
     let told = asked.told;
-    let text = match str::from_utf8(bytes) {
-        Ok(text) => text,
-        Err(error) => {
-            let text = valid_front(bytes, error.valid_up_to());
-            tell_bytes(report, Named { file, text, told })?;
-            return Ok(None);
-        }
+    let Some(text) = text_of(report, told, file, bytes)? else {
+        return Ok(None);
     };
     match lay_out(report.alloc, text, &asked.layout) {
         Ok(laid) => Ok(Some((text, laid))),
@@ -230,7 +225,11 @@ fn show(
 }
 
 /// Tells why a file isn't replaced.
-fn tell_refused(report: &mut Report, path: &str, refused: &Refused) -> Result<(), AllocError>
+pub(crate) fn tell_refused(
+    report: &mut Report,
+    path: &str,
+    refused: &Refused,
+) -> Result<(), AllocError>
     ensures { OnOk result (2 ≤ report.new.status) }
 {
     match refused {

@@ -1,11 +1,13 @@
 //! Files opened, and what is told of those that can't be.
-ghost use Rattle.std.specs.Prelude.{◌≡◌, ◌≤◌, chars, IfOk, OnOk};
+ghost use Rattle.std.specs.Prelude.{◌≡◌, ◌≤◌, chars, IfOk, IfSome, OnOk};
 ghost use Rattle.rontool_command.specs.Kept.{IsHeld, IsBehindMark};
 ghost use Rattle.rontool_command.specs.Told.{TellsAll};
 
 use crate::near::near_path;
 use crate::report::Report;
+use crate::told::{Named, tell_bytes};
 use ron_lex_text::text::strip_char;
+use rontool_faults::Format;
 use rontool_files::find::Unopened;
 use rontool_files::replace::{LINKS, follow};
 use rontool_files::store::Store;
@@ -32,13 +34,18 @@ pub(crate) fn tell_all<S: Store>(
     Ok(())
 }
 
-/// Whether standard input is laid out.
+/// Whether standard input is asked for.
 pub(crate) fn is_stream(paths: &[String]) -> bool {
     match paths {
         [] => true,
-        [path] => path.as_str() == "-",
+        [path] => is_stream_name(path.as_str()),
         _ => false,
     }
+}
+
+/// Whether a path is the name of standard input.
+pub(crate) fn is_stream_name(path: &str) -> bool {
+    path == "-"
 }
 
 /// Tells that a path can't be opened, with one near it where there is none of its name.
@@ -97,8 +104,28 @@ pub(crate) fn open_file<S: Store>(
     }
 }
 
+/// The text that the bytes of a file are; none where they are no UTF-8, which is told.
+pub(crate) fn text_of<'b>(
+    report: &mut Report,
+    told: Format,
+    file: &str,
+    bytes: &'b [u8],
+) -> Result<Option<&'b str>, AllocError>
+    ensures text { IfOk result (λ found. IfSome found (λ text. text.now ≡ bytes.now)) }
+    ensures tells { TellsAll report.old → OnOk result (TellsAll report.new) }
+{
+    match str::from_utf8(bytes) {
+        Ok(text) => Ok(Some(text)),
+        Err(error) => {
+            let text = valid_front(bytes, error.valid_up_to());
+            tell_bytes(report, Named { file, text, told })?;
+            Ok(None)
+        }
+    }
+}
+
 /// The first of these bytes, as a text.
-pub(crate) fn valid_front(bytes: &[u8], many: usize) -> &str {
+fn valid_front(bytes: &[u8], many: usize) -> &str {
     let front = match bytes.split_at_checked(many) {
         Some((front, _)) => front,
         None => bytes,

@@ -1,20 +1,24 @@
 //! The program over any store of files.
 ghost use Rattle.std.specs.Prelude.{IfOk};
-ghost use Rattle.rontool_command.specs.Kept.{KeepsAll};
+ghost use Rattle.rontool_command.specs.Kept.{KeepsText};
 ghost use Rattle.rontool_command.specs.Told.{TellsAll};
 
 use crate::ask::{Asked, read_words};
+use crate::checking::check_all;
 use crate::formatting::format_all;
+use crate::getting::get_value;
+use crate::rendering::render;
 pub use crate::report::Report;
+use crate::setting::set_value;
 use rontool_files::store::Store;
 use std::alloc::{AllocError, Global};
 use std::io::Read;
 
 /// Runs the program with these words, its own name left out, over a store of files and standard input. It fails where no
 /// memory is found. Status 0 says that nothing went wrong, and nothing is told then on standard error. Whatever happens, a
-/// file holds what it held, or a text of the same words and comments under the same permissions; all others stay, but for
-/// a new file beside it.
-#[tactic(auto, using(crate::proofs::KeptLemmas::kept_same))]
+/// file holds what it held, or under the same permissions a text of the same words and comments, or of one value put in
+/// the place of another; all others stay, but for a new file beside it.
+#[tactic(auto, using(crate::proofs::KeptLemmas::text_relaid, crate::proofs::KeptLemmas::text_put, crate::proofs::KeptLemmas::text_same))]
 pub fn run<S: Store, R: Read>(
     alloc: Global,
     words: &[String],
@@ -22,10 +26,14 @@ pub fn run<S: Store, R: Read>(
     input: &mut R,
 ) -> Result<Report, AllocError>
     ensures tells { IfOk result TellsAll }
-    ensures kept { S.told → KeepsAll (S.stands store.old) (S.stands store.new) }
+    ensures kept { S.told → KeepsText (S.stands store.old) (S.stands store.new) }
 {
     match read_words(alloc, words) {
         Ok(Asked::Format(wanted)) => format_all(alloc, &wanted, store, input),
+        Ok(Asked::Check(wanted)) => check_all(alloc, &wanted, store, input),
+        Ok(Asked::Get(wanted)) => get_value(alloc, &wanted, store, input),
+        Ok(Asked::Set(wanted)) => set_value(alloc, &wanted, store),
+        Ok(Asked::Json(wanted)) => render(alloc, &wanted, store, input),
         Ok(Asked::Nothing) => Ok(Report::new(alloc)),
         Err(error) => explain(alloc, &error),
     }

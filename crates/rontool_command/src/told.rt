@@ -1,10 +1,15 @@
 //! Faults of texts.
-ghost use Rattle.std.specs.Prelude.{◌≤◌, OnOk};
+ghost use Rattle.std.specs.Prelude.{◌≡◌, ◌≤◌, true, false, chars, IfOk, MatchOption, OnOk};
+ghost use Rattle.ron_format.specs.Refused.{IsRefused};
+ghost use Rattle.ron_format.specs.Whole.{IsWhole};
+ghost use Rattle.rontool_command.specs.Told.{TellsAll};
 
 use crate::report::Report;
-use ron_base::error::{Position, Span, SpannedError, position_after};
+use ron_base::error::{Error, Position, Span, SpannedError, position_after};
+use ron_format::Refusal;
 use ron_format::document::Document;
-use rontool_faults::{Fault, Format, Note};
+use rontool_check::check;
+use rontool_faults::{Fault, Format, Note, tell};
 use std::alloc::{AllocError, Global};
 
 /// A text, the name of its file, and how its faults are told.
@@ -86,4 +91,91 @@ pub(crate) fn tell_bytes(report: &mut Report, front: Named<'_>) -> Result<(), Al
         note: None,
     };
     report.accuse(front.text, &fault, front.told)
+}
+
+/// Whether each token of a text is whole and each bracket is closed by one of its kind. Where not, that is told.
+pub(crate) fn is_whole(report: &mut Report, named: Named<'_>) -> Result<bool, AllocError>
+    ensures whole { IfOk result (λ whole. whole ≡ true → IsWhole (chars named.entry.text.now)) }
+    ensures fault { IfOk result (λ whole. whole ≡ false → 1 ≤ report.new.status) }
+    ensures tells { TellsAll report.old → OnOk result (TellsAll report.new) }
+{
+    match refusal_of(report.alloc, named.text) {
+        None => Ok(true),
+        Some(refusal) if refusal.error.code == Error::OutOfMemory => Err(AllocError),
+        Some(refusal) => {
+            tell_refusal(report, named, &refusal.error)?;
+            Ok(false)
+        }
+    }
+}
+
+/// Why a text isn't cut into words.
+fn refusal_of(alloc: Global, text: &str) -> Option<Refusal>
+    ensures { MatchOption result (IsWhole (chars text.now)) (λ refusal. IsRefused (chars text.now) refusal.error) }
+{
+    match Document::of(alloc, text) {
+        Ok(_) => None,
+        Err(refusal) => Some(refusal),
+    }
+}
+
+/// Whether a text is one of the grammar; where not, that is told.
+pub(crate) fn is_fine(report: &mut Report, named: Named<'_>) -> Result<bool, AllocError>
+    ensures tells { TellsAll report.old → OnOk result (TellsAll report.new) }
+{
+    if !is_whole(report, named)? {
+        return Ok(false);
+    }
+    let found = check(report.alloc, named.text)?;
+    match &found.fault {
+        Some(error) => {
+            tell_fault(report, named, error)?;
+            Ok(false)
+        }
+        None => Ok(true),
+    }
+}
+
+/// Tells a fault of a text.
+pub(crate) fn tell_fault(
+    report: &mut Report,
+    named: Named<'_>,
+    error: &SpannedError,
+) -> Result<(), AllocError>
+    ensures { OnOk result (1 ≤ report.new.status) }
+{
+    let message = format!(in report.alloc; "{}", error.code)?;
+    tell_at(report, named, error.span, message.as_str())
+}
+
+/// Tells what is wrong at a place of a text.
+pub(crate) fn tell_at(
+    report: &mut Report,
+    named: Named<'_>,
+    span: Span,
+    message: &str,
+) -> Result<(), AllocError>
+    ensures { OnOk result (1 ≤ report.new.status) }
+{
+    let fault = plain(named.file, span, message);
+    report.accuse(named.text, &fault, named.told)
+}
+
+/// Tells a warning of a text, which may be a fault. One that is none goes to standard output.
+pub(crate) fn tell_warning(
+    report: &mut Report,
+    named: Named<'_>,
+    warning: (Span, &str),
+    is_fault: bool,
+) -> Result<(), AllocError>
+    ensures tells { TellsAll report.old → OnOk result (TellsAll report.new) }
+{
+    let (span, why) = warning;
+    let message = format!(in report.alloc; "warning: {why}")?;
+    let fault = plain(named.file, span, message.as_str());
+    if is_fault {
+        return report.accuse(named.text, &fault, named.told);
+    }
+    let told = tell(report.alloc, named.text, &fault, named.told)?;
+    report.output.push_str(told.as_str())
 }
