@@ -6,7 +6,7 @@ use ron_base::extensions::Extensions;
 use ron_de_steps::attributes::read_head;
 use ron_lex::cursor::Cursor;
 use rontool_paths::place::span_between;
-use rontool_paths::word::{Sort, Word, next_word};
+use rontool_paths::word::{Sort, Word, name_of, next_word};
 use std::alloc::{AllocError, Global};
 
 /// So many warnings are told of a text at most.
@@ -57,12 +57,42 @@ fn walk(alloc: Global, found: &mut Found, text: &str, start: &str) -> Result<(),
         }
         rest = word.after;
     }
-    if !walk.is_whole() {
-        let end = position_after(text);
-        found.fault = Some(SpannedError {
-            code: Error::Eof,
-            span: Span { start: end, end },
-        });
+    if walk.is_whole() {
+        return warn_of_announced(found, &walk, text, start);
+    }
+    let end = position_after(text);
+    found.fault = Some(SpannedError {
+        code: Error::Eof,
+        span: Span { start: end, end },
+    });
+    Ok(())
+}
+
+/// Warns of extensions that are announced to no effect before the value, with which `body` begins.
+fn warn_of_announced(
+    found: &mut Found,
+    walk: &Walk<'_>,
+    text: &str,
+    body: &str,
+) -> Result<(), AllocError> {
+    let mut announced = Extensions::empty();
+    let mut rest = text;
+    'words: for _ in 0..u64::MAX {
+        let Some(word) = next_word(rest) else {
+            break;
+        };
+        if word.from.len() <= body.len() || found.warnings.len() >= MOST {
+            break;
+        }
+        rest = word.after;
+        if let Some(extension) = Extensions::from_ident(name_of(word.text)) {
+            if announced.contains(extension) || !walk.may_use(extension) {
+                let span = span_of(text, word);
+                let warning = Warning::NoEffect;
+                found.warnings.push(Warned { span, warning })?;
+            }
+            announced = announced.union(extension);
+        }
     }
     Ok(())
 }

@@ -2,6 +2,7 @@
 use crate::frame::{Frame, Kind, Stage};
 use crate::scalar::read_word;
 use ron_base::error::Error;
+use ron_base::extensions::Extensions;
 use ron_lex_text::text::begins_with;
 use rontool_paths::word::{Bracket, Sort, Word, is_name, name_of};
 use std::alloc::{AllocError, Global};
@@ -17,6 +18,9 @@ pub(crate) struct Walk<'t> {
     /// The last word, where it is a value by itself.
     pub last: Option<Word<'t>>,
     keys: BTreeSet<String>,
+    /// Whether there are round brackets, and such with a name before them.
+    has_round: bool,
+    has_named: bool,
 }
 
 impl<'t> Walk<'t> {
@@ -29,6 +33,8 @@ impl<'t> Walk<'t> {
             groups: 0,
             last: None,
             keys: BTreeSet::new(alloc),
+            has_round: false,
+            has_named: false,
         }
     }
 
@@ -75,9 +81,13 @@ impl<'t> Walk<'t> {
 
     /// A bracket opens a group, which a name before it may belong to.
     fn open(&mut self, bracket: Bracket) -> Result<(), Error> {
-        if bracket != Bracket::Round || !self.is_named() {
+        let is_round = bracket == Bracket::Round;
+        let is_named = is_round && self.is_named();
+        if !is_named {
             self.begin()?;
         }
+        self.has_round = self.has_round || is_round;
+        self.has_named = self.has_named || is_named;
         self.outer.push(self.here)?;
         self.groups = self.groups.saturating_add(1);
         self.here = Frame::opened(bracket, self.groups);
@@ -144,6 +154,14 @@ impl<'t> Walk<'t> {
         }
         self.begin()?;
         read_word(self.alloc, text)
+    }
+
+    /// Whether something that is read may be spelled by this extension.
+    pub(crate) fn may_use(&self, extension: Extensions) -> bool {
+        if extension == Extensions::UNWRAP_VARIANT_NEWTYPES {
+            return self.has_named;
+        }
+        extension != Extensions::EXPLICIT_STRUCT_NAMES || self.has_round
     }
 
     /// Whether this key stands in its group already.

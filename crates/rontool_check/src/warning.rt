@@ -13,6 +13,8 @@ pub enum Warning {
     NoBoolean,
     /// `some(..)` or `none`.
     NoOption,
+    /// An extension is announced again, or nothing in the text may be spelled by it.
+    NoEffect,
 }
 
 /// A warning, and the place of the word that it speaks of.
@@ -31,6 +33,8 @@ impl Warning {
                 "a name to readers: an option without a value is `None`, a unit `()`",
             Warning::NoBoolean => "a name to readers: truth values are `true` and `false`",
             Warning::NoOption => "a name to readers: options are `Some(..)` and `None`",
+            Warning::NoEffect =>
+                "announced to no effect: nothing here is spelled by it, or it is announced before",
         }
     }
 
