@@ -78,6 +78,3 @@ fn push_long(alloc: Global, out: &mut String, text: &str, fault: &Fault) -> Resu
     out.push('\n')?;
     excerpt::push_excerpt(alloc, out, text, note.span)
 }
-
-#[cfg(test)]
-mod tests;

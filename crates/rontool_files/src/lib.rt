@@ -11,5 +11,3 @@ pub mod glob;
 pub mod memory;
 pub mod replace;
 pub mod store;
-#[cfg(test)]
-mod tests;

@@ -1,6 +1,6 @@
 //! Rows: a fault, and how it is told.
-use crate::{Fault, Format, Note, tell};
 use ron_base::error::{Position, Span};
+use rontool_faults::{Fault, Format, Note, tell};
 
 /// The span between two places of a line.
 fn span(line: usize, start: usize, end: usize) -> Span {

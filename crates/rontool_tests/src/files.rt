@@ -1,8 +1,8 @@
 //! Each call failing in turn, and the files that paths name.
-use crate::find::find;
-use crate::glob::fits;
-use crate::memory::{MemoryFiles, Node, Plan};
-use crate::replace::{Refused, Replaced, replace};
+use rontool_files::find::find;
+use rontool_files::glob::fits;
+use rontool_files::memory::{MemoryFiles, Node, Plan};
+use rontool_files::replace::{Refused, Replaced, replace};
 use std::alloc::{AllocError, Global};
 use std::io;
 use std::io::ErrorKind;
