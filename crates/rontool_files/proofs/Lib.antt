@@ -1,1 +1,2 @@
 pub mod FollowLemmas
+mod GlobLemmas

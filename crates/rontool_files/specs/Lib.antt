@@ -1,3 +1,4 @@
 pub mod Thing
 pub mod Replace
 pub mod Memory
+pub mod Glob

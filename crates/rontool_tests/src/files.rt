@@ -197,6 +197,7 @@ fn globs_stand_for_names(rt: HostRuntime) {
         ("?.ron", "éa.ron", false),
         ("**/b.ron", "b.ron", true),
         ("**/b.ron", "x/y/b.ron", true),
+        ("**/b.ron", "xb.ron", false),
         ("a/**", "a/x/y", true),
         ("a/*/c", "a/b/c", true),
         ("a/*/c", "a/b/b/c", false),

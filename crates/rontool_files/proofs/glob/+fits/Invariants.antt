@@ -1,8 +1,8 @@
-use Rattle.std.proofs.Common.{◌+◌, ◌*◌, length}
+use Rattle.std.proofs.Common.{◌+◌, ◌*◌, length, chars}
 use Rattle.rontool_files.proofs.glob.+fits.Given as goal
 
-abbrev pub decreases-fits_bytes : goal.decreases-fits_bytes
-decreases-fits_bytes l = 2 * (length l.glob.now + length l.text.now) + 1
+abbrev pub decreases-fits : goal.decreases-fits
+decreases-fits l = 2 * (length (chars l.glob.now) + length (chars l.text.now))
 
-abbrev pub decreases-fits_behind : goal.decreases-fits_behind
-decreases-fits_behind l = 2 * (length l.glob.now + length l.text.now)
+abbrev pub decreases-fits_run : goal.decreases-fits_run
+decreases-fits_run l = 2 * (length (chars l.glob.now) + length (chars l.text.now)) + 1
