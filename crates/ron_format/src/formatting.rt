@@ -6,6 +6,7 @@ ghost use Rattle.std.specs.Prelude.{◌≡◌, chars, string_bytes, OnOk, IfOk, 
 ghost use Rattle.ron_format_words.specs.Comments.{said};
 ghost use Rattle.ron_format_words.specs.Places.{SameText};
 ghost use Rattle.ron_format_words.specs.Written.{Kept, before_edge, place_past};
+ghost use Rattle.ron_format.specs.Answer.{TellsSame};
 ghost use Rattle.ron_format.specs.Refused.{IsRefused};
 ghost use Rattle.ron_format.specs.Whole.{IsWhole};
 ghost use Rattle.ron_format.specs.View.{before_view, place_view, PutsGranted, PassesEdge, BeginsWithEdge};
@@ -21,7 +22,7 @@ use crate::word::{Sort, TAB_WIDTH, column_behind};
 use ron_base::error::{Error, SpannedError, SpannedResult};
 use ron_lex::gap::skip_gap;
 use ron_lex::token::skip_token;
-use ron_lex_text::text::{before, is_ended, strip_char};
+use ron_lex_text::text::{before, is_ended, is_same, strip_char};
 use std::alloc::{AllocError, Global};
 
 /// A text laid out anew: its words are those of the text but for last commas, and each comment stands between the same
@@ -49,10 +50,11 @@ pub fn format(alloc: Global, text: &str, layout: &Layout) -> SpannedResult<Strin
 
 /// Whether `format` leaves a text as it is. Refused as that is.
 pub fn is_formatted(alloc: Global, text: &str, layout: &Layout) -> SpannedResult<bool>
-    ensures { MatchResult result (λ _. IsWhole (chars text.now)) (IsRefused (chars text.now)) }
+    ensures value { IfOk result (TellsSame (chars text.now)) }
+    ensures refused { MatchResult result (λ _. IsWhole (chars text.now)) (IsRefused (chars text.now)) }
 {
     let laid = format(alloc, text, layout)?;
-    Ok(laid.as_str() == text)
+    Ok(is_same(laid.as_str(), text))
 }
 
 /// A text laid out by its document.
