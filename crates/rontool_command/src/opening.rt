@@ -91,7 +91,7 @@ pub(crate) fn open_file<S: Store>(
     let file = match follow(report.alloc, store, path, LINKS) {
         Ok(file) => file,
         Err(error) => {
-            report.fail(path, error)?;
+            tell_unopened(report, store, path, error)?;
             return Ok(None);
         }
     };

@@ -35,7 +35,7 @@ const CHECK_EXAMPLES: &str = "Examples:
   rontool check < in.ron           go over standard input
 
 Warnings go to standard output. They are of what readers take, but who wrote it may not have meant: a key or a field given
-twice, and names such as `null`, `True` and `some(..)`.";
+twice, what is announced to no effect, and names such as `null`, `True` and `some(..)`.";
 
 const GET_EXAMPLES: &str = "Examples:
   rontool get scene.ron entities[3].name  tell a field of the fourth item of a list
