@@ -5,5 +5,3 @@
 
 pub mod assets;
 pub mod settings;
-#[cfg(test)]
-mod tests;

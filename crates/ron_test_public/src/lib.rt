@@ -5,6 +5,8 @@
 #[cfg(test)]
 mod command;
 #[cfg(test)]
+mod configurations;
+#[cfg(test)]
 mod devices;
 #[cfg(test)]
 mod failing;
