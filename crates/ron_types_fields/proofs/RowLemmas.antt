@@ -1,12 +1,12 @@
 -- What a row's first field does and what the others do, together: for the calls of a row.
-use Rattle.std.proofs.Common.{◌≡◌, ◌<◌, ◌≤◌, ℕ, Bool, true, false, not, ◌++◌, List, [], ◌∷◌, length, map, nat_lt, Option, Some, None, chars, string_bytes, refl}
+use Rattle.std.proofs.Common.{◌≡◌, ◌<◌, ◌≤◌, ℕ, Bool, true, ◌++◌, List, [], ◌∷◌, length, nat_lt, Option, Some, None, chars, string_bytes, refl}
 use Rattle.std.proofs.Common.{sym, ap, subst, ◌∙◌, arith}
 use Rattle.std.specs.List.{list_all}
-use Rattle.std.proofs.lemmas.Bool.{and_from, and_parts}
+use Rattle.std.proofs.lemmas.Bool.{and_from}
 use Rattle.std.proofs.lemmas.List.{append_assoc, append-nil}
 use borrow.Author.Tests.{lt-ltb}
 use Rattle.ron_spec_grammar.specs.Data as plain
-use Rattle.ron_spec_grammar.specs.Schema.{Shape, Field as SchemaField, holds_text}
+use Rattle.ron_spec_grammar.specs.Schema.{Shape, Field as SchemaField}
 use Rattle.ron_data.specs.declared.data.Data.{Data}
 use Rattle.ron_data.specs.Datum.{data_view}
 use Rattle.ron_data_schema.specs.Table.{Table}
@@ -15,19 +15,8 @@ use Rattle.ron_types.specs.Tables.{put, put_all, root_in, roots_in}
 use Rattle.ron_types_fields.specs.Names.{Name, own}
 use Rattle.ron_types_fields.specs.Rows.{Part, tables_of, field_of, fields_at, AddsFields, PushesFields, own_differ}
 use Rattle.ron_types_fields.specs.Spelled.{and_spelled, spelled_fields, spelled_normal, SpelledThen, NoneSpelled}
-use Rattle.ron_types_fields.proofs.SpelledLemmas.{HasOther, other_first, other_of, front-spelled, behind-spelled, front-called, behind-called}
-
--- a flag that is turned
-pub not_true : (b : Bool) → not b ≡ true → b ≡ false
-not_true true e = sym e
-not_true false e = refl
-
--- a name that differs from all behind it
-pub first_differs : (n : Name) (ns : List Name) → own_differ (n ∷ ns) ≡ true → holds_text (own n) (map own ns) ≡ false
-first_differs n ns h = not_true _ (and_parts (not (holds_text (own n) (map own ns))) (own_differ ns) h).0
-
-pub others_differ : (n : Name) (ns : List Name) → own_differ (n ∷ ns) ≡ true → own_differ ns ≡ true
-others_differ n ns h = (and_parts (not (holds_text (own n) (map own ns))) (own_differ ns) h).1
+use Rattle.ron_types_fields.specs.SpelledLaws.{HasOther, other_first, front-spelled, behind-spelled, first_differs, others_differ}
+use Rattle.ron_types_fields.proofs.SpelledLemmas.{other_of, front-called, behind-called}
 
 -- ---- schemas
 

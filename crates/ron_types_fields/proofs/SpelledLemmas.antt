@@ -1,15 +1,13 @@
 -- Fields that may be left out, name by name: for the calls of a row.
-use Rattle.std.proofs.Common.{◌≡◌, Bool, true, false, cond, List, [], ◌∷◌, map, Option, Some, None, option_map, chars, string_bytes, refl, ap, ◌∙◌}
-use Rattle.std.proofs.lemmas.Bool.{or_parts}
+use Rattle.std.proofs.Common.{◌≡◌, Bool, true, false, cond, List, [], ◌∷◌, Some, None, option_map, chars, string_bytes, refl, ap, ◌∙◌}
 use Rattle.ron_spec_words.specs.Characters.{Text}
 use Rattle.ron_spec_words.specs.Runs.{same_text}
 use Rattle.ron_spec_grammar.specs.Data as plain
-use Rattle.ron_spec_grammar.specs.Schema.{holds_text}
 use Rattle.ron_spec_grammar.proofs.Finding.{same_self}
 use Rattle.ron_data.specs.Datum.{data_view, fields_view}
 use Rattle.ron_types.specs.FieldNames.{Field}
-use Rattle.ron_types_fields.specs.Names.{Name, own}
-use Rattle.ron_types_fields.specs.Spelled.{and_spelled, spelled_fields, front, behind, front_of, behind_of}
+use Rattle.ron_types_fields.specs.Spelled.{front, behind, front_of, behind_of}
+use Rattle.ron_types_fields.specs.SpelledLaws.{HasOther}
 
 -- ---- fields of code, as data sees them
 
@@ -31,27 +29,10 @@ behind-view name (f ∷ fs) = go (same_text (chars (string_bytes f.0)) name)
 
 -- ---- no field of a name is first
 
--- the first field, if there is one, has another name
-pub record HasOther (name : Text) (ds : plain.Fields) : Type 0 where
-  pub none : front name ds ≡ None
-  pub all : behind name ds ≡ ds
-
--- the same of fields of code
+-- the first field of code, if there is one, has another name
 pub record HasOtherOf (name : Text) (fs : List Field) : Type 0 where
   pub none : front_of name fs ≡ None
   pub all : behind_of name fs ≡ fs
-
--- fields of names among which this one isn't
-pub other_first : (name : Text) (ns : List Name) (ds : List (Option plain.Data)) → holds_text name (map own ns) ≡ false → HasOther name (spelled_fields ns ds)
-other_first name [] ds h = record { none = refl; all = refl }
-other_first name (n ∷ ns) [] h = record { none = refl; all = refl }
-other_first name (n ∷ ns) (None ∷ ds) h = other_first name ns ds (or_parts (same_text (own n) name) (holds_text name (map own ns)) h).1
-other_first name (n ∷ ns) (Some d ∷ ds) h =
-    let e = (or_parts (same_text (own n) name) (holds_text name (map own ns)) h).0 in
-    record {
-      none = ap (λ b. cond b (Some d) None) e;
-      all = ap (λ b. cond b (spelled_fields ns ds) (plain.field_and (own n) d (spelled_fields ns ds))) e;
-    }
 
 -- fields of code that stand for such
 pub other_of : (name : Text) (fs : List Field) → HasOther name (fields_view fs) → HasOtherOf name fs
@@ -67,23 +48,7 @@ other_of name (f ∷ fs) h = go (same_text (chars (string_bytes f.0)) name) h.no
 
 -- ---- a field before others
 
--- what is put before such fields comes off again
-module _ (name : Text) (d : Option plain.Data) (ds : plain.Fields) (h : HasOther name ds) where
-  pub front-spelled : front name (and_spelled name d ds) ≡ d
-  front-spelled = go d
-    where
-      go : (d : Option plain.Data) → front name (and_spelled name d ds) ≡ d
-      go None = h.none
-      go (Some x) = ap (λ b. cond b (Some x) None) (same_self name)
-
-  pub behind-spelled : behind name (and_spelled name d ds) ≡ ds
-  behind-spelled = go d
-    where
-      go : (d : Option plain.Data) → behind name (and_spelled name d ds) ≡ ds
-      go None = h.all
-      go (Some x) = ap (λ b. cond b ds (plain.field_and name x ds)) (same_self name)
-
--- the same of a field of code that has the name
+-- what is put before such fields of code comes off again
 module _ (name : Text) (held : Field) (fs : List Field) (called : chars (string_bytes held.0) ≡ name) where
   same : same_text (chars (string_bytes held.0)) name ≡ true
   same = ap (λ t. same_text t name) called ∙ same_self name

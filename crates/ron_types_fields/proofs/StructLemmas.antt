@@ -20,7 +20,7 @@ use Rattle.ron_types_fields.specs.Names.{Name, own, others, all_called}
 use Rattle.ron_types_fields.specs.Rows.{Part, tables_of, field_of, fields_at, MayStand, EachMayStand, AddsFields, own_differ}
 use Rattle.ron_types_fields.specs.Spelled.{spelled_fields}
 use Rattle.ron_types_fields.specs.Structs.{is_whole_range, MayBeFields, table_of_fields, data_of_fields}
-use Rattle.ron_types_fields.proofs.RowLemmas.{not_true, first_differs, others_differ}
+use Rattle.ron_types_fields.specs.SpelledLaws.{not_true, first_differs, others_differ}
 
 -- ---- names
 

@@ -4,4 +4,5 @@ pub mod Rows
 pub mod Structs
 pub mod NamedStructs
 pub mod FieldLaws
+pub mod SpelledLaws
 pub mod PieceLaws

@@ -11,8 +11,7 @@ use Rattle.ron_types_fields.specs.NamedStructs.{data_of_newtype, data_of_tuple_s
 use Rattle.ron_types_fields.specs.Rows.{own_differ}
 use Rattle.ron_types_fields.specs.Spelled.{spelled_fields, front, behind}
 use Rattle.ron_types_fields.specs.Structs.{data_of_fields}
-use Rattle.ron_types_fields.proofs.SpelledLemmas.{other_first, front-spelled, behind-spelled}
-use Rattle.ron_types_fields.proofs.RowLemmas.{first_differs, others_differ}
+use Rattle.ron_types_fields.specs.SpelledLaws.{other_first, front-spelled, behind-spelled, first_differs, others_differ}
 
 -- ---- newtypes and tuple structs
 
